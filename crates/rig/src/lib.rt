@@ -8,8 +8,8 @@ ghost use Rattle.rig.specs.Meaning.{Meaning, Laws, lawful, after};
 
 mod check;
 
-pub use check::check_list;
 pub use check::Unfit;
+pub use check::check_list;
 
 // The most moves that a rig may have.
 pub const MOST_MOVES: u8 = 32;
