@@ -1,0 +1,5 @@
+pub mod Digits
+pub mod Lines
+pub mod Frames
+pub mod Faults
+pub mod BadLines

@@ -1,0 +1,3 @@
+pub mod Stock
+pub mod PartLines
+pub mod Ends

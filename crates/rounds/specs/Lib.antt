@@ -1,0 +1,3 @@
+pub mod Record
+pub mod Parts
+pub mod Stored
