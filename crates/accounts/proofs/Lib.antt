@@ -1,3 +1,4 @@
 pub mod Repeats
 pub mod Watch
 pub mod Served
+pub mod Kept

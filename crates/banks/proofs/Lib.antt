@@ -2,7 +2,6 @@ pub mod Below
 pub mod AgeLaws
 pub mod Panels
 pub mod Identical
-pub mod Limited
 pub mod Meanings
 pub mod RigLaws
 pub mod OneTable

@@ -2,14 +2,14 @@
 use mathlib.Core.Path.{_≡_, refl, sym, ap, subst, _∙_}
 use mathlib.Core.List.{List, [], _∷_, _++_, append-assoc, append-nil}
 use mathlib.Core.Logic.{⊎-elim}
-use Prim.Native.Nat.{ℕ, zero, suc, _+_, _-_, _<_, _≤_}
+use Prim.Native.Nat.{ℕ, zero, suc, _+_, _<_, _≤_}
 use native.Mathlib.Nat.{not-suc-le-zero}
 use native.Mathlib.Omega.{arith}
 use lib.ListN.{length, drop}
 use Rattle.std.proofs.shelf.Lists.{length-drop}
 use Rattle.std.proofs.shelf.Tests.{cases-eq, cases-lt, cases-order}
 use Rattle.refusals.specs.declared.Refusal.{Refusal}
-use Rattle.frames.specs.Digits.{AllDigits, numeral}
+use Rattle.frames.specs.Digits.{numeral}
 use Rattle.frames.specs.Frames.{digits-after, Shaped}
 use Rattle.frames.specs.BadLines.{BadLine}
 use Rattle.frames.proofs.Numerals.{numeral-digits, numeral-same}
@@ -17,8 +17,8 @@ use Rattle.frames.proofs.Splits.{same-split}
 use Rattle.frames.proofs.OneFault.{digits-append, value-small-numeral, GoodLine, good-line-not-bad, one-bad-line}
 use Rattle.banks.specs.declared.table.Bank.{Bank}
 use Rattle.banks.specs.declared.table.BankTable.{BankTable}
-use Rattle.banks.specs.Limits.{bank-at, BankWithin, Empty}
-use Rattle.banks.specs.Stored.{most-bytes, head-line, bank-line, bank-lines, HeadWithin, head-column, bank-column, BanksRead, BankFault, TableRead, TableFault}
+use Rattle.banks.specs.Limits.{bank-at, BankWithin}
+use Rattle.banks.specs.Stored.{most-bytes, head-line, bank-line, bank-lines, HeadWithin, head-column, bank-column, BankFault, TableRead, TableFault}
 use Rattle.banks.specs.Stored.TableFault.{too-long, in-head, in-bank}
 use Rattle.banks.proofs.TableLines.{HeadIs, BankIs, head-fault, bank-fault, head-column-is, bank-column-is, head-no-fault, bank-no-fault}
 

@@ -1,13 +1,13 @@
 -- The lines of a bank table: their fields, their limits, and the step from bank to bank.
 use mathlib.Core.Path.{_≡_, refl, sym, ap, subst, _∙_}
 use mathlib.Core.Bool.{cond}
-use mathlib.Core.List.{List, [], _∷_, _++_, append-assoc}
+use mathlib.Core.List.{List, _∷_, _++_, append-assoc}
 use mathlib.Core.Logic.{_≢_}
 use Prim.Native.Nat.{ℕ, zero, suc, _+_, _-_, _<_, _≤_}
 use native.Mathlib.Nat.{not-suc-le-zero}
 use native.Mathlib.Numerals.{add-one}
 use native.Mathlib.Omega.{arith}
-use lib.ListN.{length, getD, set, take, drop, replicate, length-append}
+use lib.ListN.{length, set, drop, replicate, length-append}
 use borrow.Author.Count.{below-more}
 use Rattle.std.proofs.shelf.Lists.{getD-set-same, getD-set-other, drop-at}
 use Rattle.std.proofs.shelf.Ways.{tells}
@@ -99,6 +99,9 @@ bank-good i at panel dwell gap e = record {
   gap-some = grind (arith, tells);
   gap-low = grind (arith, tells);
 }
+
+pub bank-good-at : (i at panel dwell gap column : ℕ) → column ≡ bank-fault i at panel dwell gap → column ≤ 0 → BankGood i at panel dwell gap
+bank-good-at i at panel dwell gap column told none = bank-good i at panel dwell gap (sym told ∙ omega arith)
 
 pub bank-no-fault : (i : ℕ) (b : Bank) → BankWithin b → bank-fault i i (b .panel) (b .dwell) (b .gap) ≡ 0
 bank-no-fault i b h =

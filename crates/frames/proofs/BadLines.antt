@@ -1,9 +1,9 @@
 -- What the reading of a line says of the line, and how its digits fall into fields.
 use mathlib.Core.Path.{_≡_, refl, sym, ap, subst, _∙_}
-use mathlib.Core.List.{List, [], _∷_, _++_, append-assoc, append-nil}
-use Prim.Native.Nat.{ℕ, suc, _+_, _-_, _<_, _≤_}
+use mathlib.Core.List.{List, _∷_, _++_, append-assoc, append-nil}
+use Prim.Native.Nat.{ℕ, _+_, _<_, _≤_}
 use native.Mathlib.Omega.{arith}
-use lib.ListN.{length, getD, take, drop, length-append}
+use lib.ListN.{length, take, drop, length-append}
 use Rattle.std.proofs.shelf.Lists.{take-append-drop, drop-drop, drop-all, length-take, length-drop}
 use Rattle.refusals.specs.Numbers.{no-digit, no-frame, out-of-place, bad-field, bad-end}
 use Rattle.frames.specs.declared.frame.Frame.{Frame}
@@ -11,10 +11,10 @@ use Rattle.frames.specs.declared.frame.FrameFault.{FrameFault}
 use Rattle.frames.specs.declared.frame.FrameFault.the-variants.{Digit, Shape}
 use Rattle.frames.specs.declared.faults.FileFault.{FileFault}
 use Rattle.frames.specs.declared.faults.FileFault.the-variants.{Frame as InFrame, TooLong, Unclosed, AfterEnd, Misplaced, Field, Unlawful}
-use Rattle.frames.specs.Digits.{AllDigits, numeral, value, Writes, FirstNoDigit, column-of}
-use Rattle.frames.specs.Lines.{NoneCloses, ClosedLine}
-use Rattle.frames.specs.Frames.{kind-of, body-of, Shaped, IsFrame, NoFrame, NoDigitIn, FrameFails, FrameRead, LineFails, NextFails}
-use Rattle.frames.specs.Faults.{digit-told, frame-told, file-told}
+use Rattle.frames.specs.Digits.{AllDigits, numeral, value, Writes}
+use Rattle.frames.specs.Lines.{ClosedLine}
+use Rattle.frames.specs.Frames.{kind-of, body-of, IsFrame, FrameRead, LineFails, NextFails}
+use Rattle.frames.specs.Faults.{frame-told, file-told}
 use Rattle.frames.specs.BadLines.{field, Framed, BadLine}
 use Rattle.frames.specs.BadLines.BadLine.{not-closed, not-digit, not-frame, other-kind, bad-value}
 use Rattle.frames.proofs.Shapes.{due, frame-length}

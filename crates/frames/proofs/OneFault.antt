@@ -1,13 +1,13 @@
 -- A good line is not bad, and what is wrong with a bad line is one thing only.
 use mathlib.Core.Path.{_≡_, refl, sym, ap, subst, _∙_}
 use mathlib.Core.List.{List, [], _∷_, _++_, append-assoc}
-use Prim.Native.Nat.{ℕ, _+_, _^_, _<_, _≤_}
+use Prim.Native.Nat.{ℕ, _+_, _^_, _<_}
 use native.Mathlib.Nat.{mod-eq-of-lt}
 use native.Mathlib.Omega.{arith}
 use Rattle.refusals.specs.declared.Refusal.{Refusal}
 use Rattle.refusals.specs.Numbers.{no-digit, bad-field}
 use Rattle.frames.specs.Digits.{AllDigits, numeral, value, FirstNoDigit}
-use Rattle.frames.specs.Lines.{NoneCloses, ClosedLine}
+use Rattle.frames.specs.Lines.{ClosedLine}
 use Rattle.frames.specs.Frames.{Shaped, NoFrame}
 use Rattle.frames.specs.BadLines.{Framed, BadLine}
 use Rattle.frames.specs.BadLines.BadLine.{not-closed, not-digit, not-frame, other-kind, bad-value}

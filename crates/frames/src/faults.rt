@@ -11,6 +11,7 @@ use crate::frame::FrameFaultPartialEq;
 use crate::frame::cut_frame;
 use crate::lines::split_line;
 use refusals::Refusal;
+use std::fmt;
 
 // Why a file is refused. Lines and columns count from 1.
 #[derive(Clone, Copy, PartialEq, Eq, Debug)]
@@ -86,5 +87,30 @@ pub fn next_frame(rest: &[u8], line: u32) -> Result<(Frame<'_>, &[u8]), FileFaul
     match split_line(rest) {
         Some((bytes, after)) => Ok((cut_frame(bytes, line)?, after)),
         None => Err(FileFault::Unclosed { line }),
+    }
+}
+
+// A sentence that says what is wrong where.
+pub impl fmt::Display for FileFault as FileFaultDisplay {
+    fn fmt<W: fmt::Write>(&self, f: &mut fmt::Formatter<W>) -> fmt::Result {
+        let told = self.told();
+        let line = told.line;
+        let column = told.column;
+        match *self {
+            FileFault::TooLong => write!(f, "The file is longer than 65,536 bytes."),
+            FileFault::Unclosed { .. } => write!(f, "Line {line}: the line is lacking, or it is not closed by byte 0A."),
+            FileFault::AfterEnd { .. } => write!(f, "Line {line}: something stands after the end of the round."),
+            FileFault::Misplaced { .. } => write!(f, "Line {line}: a frame of another kind is due here."),
+            FileFault::Field { .. } => write!(f, "Line {line}, column {column}: the field is outside its limits."),
+            FileFault::Unlawful { lap, position, .. } => {
+                write!(f, "Line {line}: the round is not kept for ever: the dwell at position {position} of lap {lap} makes a bank wait longer than its gap.")
+            }
+            FileFault::Frame(FrameFault::Digit(_)) => {
+                write!(f, "Line {line}, column {column}: the byte is no upper-case hexadecimal digit.")
+            }
+            FileFault::Frame(FrameFault::Shape { .. }) => {
+                write!(f, "Line {line}: the line is no frame: its kind is unknown, or its number of digits is not that of its kind.")
+            }
+        }
     }
 }

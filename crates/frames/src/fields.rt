@@ -1,6 +1,6 @@
 // Fields: numbers at fixed places among digits.
 ghost use mathlib.Core.Path.{_≡_};
-ghost use Prim.Native.Nat.{ℕ, _+_, _<_, _≤_};
+ghost use Prim.Native.Nat.{_+_, _≤_};
 ghost use lib.ListN.{length, take, drop};
 ghost use Rattle.frames.specs.Digits.{AllDigits};
 ghost use Rattle.frames.specs.BadLines.{field};

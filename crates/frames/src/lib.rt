@@ -17,6 +17,7 @@ pub use digits::digit_value;
 pub use digits::number;
 pub use faults::FileFault;
 pub use faults::FileFaultDebug;
+pub use faults::FileFaultDisplay;
 pub use faults::FileFaultFromFrameFault;
 pub use faults::FileFaultPartialEq;
 pub use faults::next_frame;

@@ -1,6 +1,7 @@
 // What a refusal tells: a number for the kind of fault, and the values that say where it is.
 ghost use mathlib.Core.Path.{_≡_};
 ghost use Rattle.refusals.specs.Numbers.{at-place, at-move};
+use std::fmt;
 
 // A value that a refusal does not have is 0: only files have lines and columns, only lists of moves have laps and positions,
 // and only buffers have a length that is needed.
@@ -27,5 +28,12 @@ impl Refusal {
         ensures { λ r. ⌜ r ≡ at-move number lap position ⌝ }
     {
         Refusal { number, line: 0, column: 0, lap, position, length: 0 }
+    }
+}
+
+// The frame of a refusal of a file: 1F, number, line, column.
+pub impl fmt::Display for Refusal as RefusalDisplay {
+    fn fmt<W: fmt::Write>(&self, f: &mut fmt::Formatter<W>) -> fmt::Result {
+        write!(f, "1F{:02X}{:08X}{:08X}", self.number, self.line, self.column)
     }
 }

@@ -51,7 +51,8 @@ impl RoundRecord {
 
     // The banks of the lap, in their order.
     pub fn list(&self) -> &[u8]
-        ensures { λ r. ⌜ now r ≡ list-of (now (self .entry)) ⌝ }
+        ensures value { λ r. ⌜ now r ≡ list-of (now (self .entry)) ⌝ }
+        ensures len { λ r. ⌜ length (now r) ≡ now (self .entry) .dwells ⌝ }
     {
         &self.banks[0..self.dwells]
     }

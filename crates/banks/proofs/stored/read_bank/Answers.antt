@@ -1,14 +1,12 @@
-use mathlib.Core.Path.{_≡_, sym, subst, _∙_}
-use Prim.Native.Nat.{ℕ, _+_}
+use mathlib.Core.Path.{_≡_, subst}
+use Prim.Native.Nat.{_+_}
 use native.Mathlib.Omega.{arith}
 use Rattle.std.proofs.shelf.Results.{err-from-errBy}
 use Rattle.frames.specs.declared.frame.Frame.{Frame}
 use Rattle.frames.specs.Frames.{FrameRead}
-use Rattle.frames.specs.BadLines.{BadLine}
-use Rattle.refusals.specs.Numbers.{out-of-place, bad-field}
 use Rattle.frames.proofs.BadLines.{next-fails, other-frame}
 use Rattle.banks.specs.Stored.{bank-column}
-use Rattle.banks.proofs.TableLines.{BankGood, bank-good, not-bank, bank-bad, bank-read}
+use Rattle.banks.proofs.TableLines.{BankGood, bank-good-at, not-bank, bank-bad, bank-read}
 use Rattle.banks.proofs.stored.read_bank.Needs as need
 
 pub returns-in-Break-frame : need.returns-in-Break-frame
@@ -33,9 +31,7 @@ returns-then-column-gt0 c =
     (c .number-at-at .ensures .read) (c .number-at-panel .ensures .read) (c .number-at-dwell .ensures .read) (c .number-at-gap .ensures .read) (c .bank-fault-column .ensures) (c .args .i + 2) (c .if-column-gt0 .taken))
 
 good : (c : need.Else-column-gt0) → BankGood (c .args .i) (c .number-at-at .result) (c .number-at-panel .result) (c .number-at-dwell .result) (c .number-at-gap .result)
-good c =
-    let z : c .bank-fault-column .result ≡ 0 = omega (arith, c .if-column-gt0 .left) in
-    bank-good (c .args .i) (c .number-at-at .result) (c .number-at-panel .result) (c .number-at-dwell .result) (c .number-at-gap .result) (sym (c .bank-fault-column .ensures) ∙ z)
+good c = bank-good-at (c .args .i) (c .number-at-at .result) (c .number-at-panel .result) (c .number-at-dwell .result) (c .number-at-gap .result) (c .bank-fault-column .result) (c .bank-fault-column .ensures) (c .if-column-gt0 .left)
 
 pub cast-result : need.cast-result
 cast-result c = let g = good c .panel-low in omega (arith, g)
