@@ -22,6 +22,7 @@ same-table a b p q r = λ i. record {
   count = p i;
   settle = q i;
   banks = r i;
+  places = isProp→PathP (λ k. length (r k) ≡ most-banks) (λ k. search props) (a .places) (b .places) i;
   enough = isProp→PathP (λ k. fewest-banks ≤ p k) (λ k. search props) (a .enough) (b .enough) i;
   few = isProp→PathP (λ k. p k ≤ most-banks) (λ k. search props) (a .few) (b .few) i;
   settles = isProp→PathP (λ k. q k ≤ most-settle) (λ k. search props) (a .settles) (b .settles) i;

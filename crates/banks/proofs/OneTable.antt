@@ -17,7 +17,9 @@ use Rattle.frames.proofs.Splits.{same-split}
 use Rattle.frames.proofs.OneFault.{digits-append, value-small-numeral, GoodLine, good-line-not-bad, one-bad-line}
 use Rattle.banks.specs.declared.table.Bank.{Bank}
 use Rattle.banks.specs.declared.table.BankTable.{BankTable}
-use Rattle.banks.specs.Limits.{bank-at, BankWithin}
+use Rattle.banks.specs.Limits.{no-bank, bank-at, BankWithin}
+use Rattle.std.proofs.shelf.Lists.{ext-getD}
+use Rattle.banks.proofs.Identical.{same-table}
 use Rattle.banks.specs.Stored.{most-bytes, head-line, bank-line, bank-lines, HeadWithin, head-column, bank-column, BankFault, TableRead, TableFault}
 use Rattle.banks.specs.Stored.TableFault.{too-long, in-head, in-bank}
 use Rattle.banks.proofs.TableLines.{HeadIs, BankIs, head-fault, bank-fault, head-column-is, bank-column-is, head-no-fault, bank-no-fault}
@@ -237,3 +239,9 @@ one-table bytes t u d e x y h k =
 -- One place where the rest begins.
 pub one-end : (bytes : List ℕ) (a b : ℕ) → a ≤ length bytes → b ≤ length bytes → drop a bytes ≡ drop b bytes → a ≡ b
 one-end bytes a b h k e = let l = sym (length-drop a bytes) ∙ ap length e ∙ length-drop b bytes in omega (arith, l)
+
+-- tables that tell the same of every bank are the same
+pub table-same : (bytes : List ℕ) (t u : BankTable) (d e : ℕ) (x y : List ℕ) → TableRead bytes t d x → TableRead bytes u e y → t ≡ u
+table-same bytes t u d e x y h k =
+    let q = one-table bytes t u d e x y h k in
+    same-table t u (q .count) (q .settle) (ext-getD no-bank (t .banks) (u .banks) (t .places ∙ sym (u .places)) (λ i l. q .banks i))

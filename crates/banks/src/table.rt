@@ -2,7 +2,7 @@
 ghost use mathlib.Core.Path.{_≡_};
 ghost use mathlib.Core.List.{_∷_};
 ghost use Prim.Native.Nat.{ℕ, _<_, _≤_, _-_};
-ghost use lib.ListN.{replicate};
+ghost use lib.ListN.{length, replicate};
 ghost use Rattle.std.specs.Options.{Cases};
 ghost use Rattle.std.specs.Orderings.{Decides};
 ghost use Rattle.banks.specs.Limits.{BankWithin, Empty, Places, WithinLimits, bank-at, fewest-banks, most-banks, most-dwell, most-gap, most-panel, most-settle, no-bank, stock-bank};
@@ -35,6 +35,7 @@ pub struct BankTable {
     count: u8,
     settle: u16,
     banks: [Bank; MOST_BANKS],
+    ghost places: { length banks ≡ most-banks },
     ghost enough: { fewest-banks ≤ count },
     ghost few: { count ≤ most-banks },
     ghost settles: { settle ≤ most-settle },

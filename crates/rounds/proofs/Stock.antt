@@ -33,6 +33,7 @@ stock-table = record {
   count = 2;
   settle = 0;
   banks = banks;
+  places = refl;
   enough = lit≤ tt;
   few = lit≤ tt;
   settles = lit≤ tt;

@@ -30,6 +30,12 @@ pub record IsStored (bytes : List ℕ) (t : BankTable) (xs : List ℕ) : Type 0 
   pub kept : LawfulForEver (panelled t) xs
   pub text : bytes ≡ round-text t xs
 
+-- The bytes are the text of some table and list, within the limits and lawful for ever.
+pub record SomeStored (bytes : List ℕ) : Type 0 where
+  pub table : BankTable
+  pub list : List ℕ
+  pub stored : IsStored bytes table list
+
 -- The reply of the checker tells of an unlawful move.
 abbrev pub HasUnlawful : Unfit → Type 0
 HasUnlawful (NoMove p) = ⊥
