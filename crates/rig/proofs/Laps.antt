@@ -3,13 +3,14 @@ use mathlib.Core.Path.{_≡_, refl, sym, ap, ap₂, subst, _∙_}
 use mathlib.Core.Bool.{Bool, true, false}
 use mathlib.Core.List.{List}
 use mathlib.Core.Logic.{_⊎_, inl, inr, ⊎-elim}
-use Prim.Native.Nat.{ℕ, zero, suc, _+_, _-_, _*_, _%_, _<_, _≤_}
+use Prim.Native.Nat.{ℕ, zero, suc, _+_, _-_, _*_, _/_, _%_, _<_, _≤_}
 use native.Mathlib.Nat.{add-zero, add-suc, zero-mul, add-mul, suc-mul, one-mul, mul-add-mod-self-right, mod-eq-of-lt, mul-le-mul, not-suc-le-zero}
 use native.Mathlib.Numerals.{add-one}
 use native.Mathlib.Omega.{arith}
 use lib.ListN.{length, getD}
 use borrow.Author.Count.{below-more}
-use Rattle.std.proofs.shelf.Tests.{cases-lt, both-ways}
+use lib.Arith.{digits-div, digits-mod}
+use Rattle.std.proofs.shelf.Tests.{cases-lt, cases-order, both-ways}
 use Rattle.rig.specs.Meaning.{Meaning, Laws, lawful, after}
 use Rattle.rig.specs.Orders.{Order, reached, LawfulTo, Endless, again, LawfulForEver}
 use Rattle.rig.specs.Checks.{list-order, lap-state, closes, LapRan, LapStopped, OnlyMoves, FirstClosing, FirstUnlawful, FirstNoMove}
@@ -201,3 +202,26 @@ module _ {S : Type 0} (m : Meaning S) (xs : List ℕ) where
             earlier = below-more (λ k. closes m xs k ≡ false) (g .done) (g .earlier) (closes-is false e);
             aged = omega (arith, g .aged, a .0);
           }
+
+-- there is one first unlawful move
+module _ {S : Type 0} (m : Meaning S) (xs : List ℕ) where
+  not-earlier : (l p k q : ℕ) → FirstUnlawful m xs (l + 1) p → FirstUnlawful m xs (k + 1) q → l * length xs + p < k * length xs + q → ⊥
+  not-earlier l p k q a b less =
+      let goes = b .before k refl (l * length xs + p) less in
+      both-ways _ (a .there l refl) (subst (λ (j : ℕ). lawful m (reached m (m .rest) (again xs) (l * length xs + p)) j ≡ true) (again-at xs l p (a .within)) goes)
+
+  pub one-unlawful : (lap p lap′ p′ : ℕ) → FirstUnlawful m xs lap p → FirstUnlawful m xs lap′ p′ → (lap ≡ lap′) × (p ≡ p′)
+  one-unlawful lap p lap′ p′ a b =
+      let l = lap - 1 in
+      let k = lap′ - 1 in
+      let el : l + 1 ≡ lap = omega (arith, a .from-one) in
+      let ek : k + 1 ≡ lap′ = omega (arith, b .from-one) in
+      let a′ = subst (λ (n : ℕ). FirstUnlawful m xs n p) (sym el) a in
+      let b′ = subst (λ (n : ℕ). FirstUnlawful m xs n p′) (sym ek) b in
+      ⊎-elim
+      (λ same.
+          let quotients = sym (digits-div l (a .within)) ∙ ap (λ (n : ℕ). n / length xs) same ∙ digits-div k (b .within) in
+          let places = sym (digits-mod l (a .within)) ∙ ap (λ (n : ℕ). n % length xs) same ∙ digits-mod k (b .within) in
+          (omega (arith, quotients, el, ek), places))
+      (λ differ. ⊎-elim (λ less. absurd (not-earlier l p k p′ a′ b′ less)) (λ more. absurd (not-earlier k p′ l p b′ a′ more)) differ)
+      (cases-order (l * length xs + p) (k * length xs + p′))

@@ -14,6 +14,8 @@ use Rattle.rig.specs.Checks.{FirstUnlawful}
 use Rattle.banks.specs.declared.table.BankTable.{BankTable}
 use Rattle.banks.specs.Panelled.{panelled}
 use Rattle.banks.specs.Stored.{most-bytes, most-dwells, head-line, bank-lines, TableRead, TableFault}
+use Rattle.rounds.specs.declared.record.RoundRecord.{RoundRecord}
+use Rattle.rounds.specs.Record.{Holds}
 use Rattle.rounds.specs.Parts.{part-lines, parts-of, PartsFault}
 
 -- THE TEXT of a table and a list
@@ -71,3 +73,12 @@ pub data FirstFault (bytes : List ℕ) (r : Refusal) : Type 0 where
   in-list : (t : BankTable) (dwells : ℕ) (rest : List ℕ) → TableRead bytes t dwells rest → PartsFault (t .count) dwells rest r → FirstFault bytes r
   -- every line is good, and the fault shows at their end
   at-end : (t : BankTable) (xs rest : List ℕ) → LinesRead bytes t xs rest → EndFault t xs rest r → FirstFault bytes r
+
+-- No other round has this text: whatever table and list the bytes are the text of, the record holds them. And the bytes have no fault.
+pub record OnlyRound (bytes : List ℕ) (r : RoundRecord) : Type 0 where
+  pub one : (t : BankTable) (xs : List ℕ) → IsStored bytes t xs → Holds r t xs
+  pub faultless : (s : Refusal) → FirstFault bytes s → ⊥
+
+-- No other refusal tells the first fault of the bytes.
+abbrev pub OnlyFault : List ℕ → Refusal → Type 0
+OnlyFault bytes r = (s : Refusal) → FirstFault bytes s → s ≡ r

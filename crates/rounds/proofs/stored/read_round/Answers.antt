@@ -1,4 +1,4 @@
-use mathlib.Core.Path.{_≡_, refl}
+use mathlib.Core.Path.{_≡_, refl, _∙_}
 use mathlib.Core.Bool.{false}
 use mathlib.Core.List.{List}
 use Prim.Native.Nat.{ℕ}
@@ -11,10 +11,13 @@ use Rattle.std.proofs.shelf.Tests.{false≢true}
 use Rattle.refusals.specs.declared.Refusal.{Refusal}
 use Rattle.frames.specs.declared.faults.FileFault.{FileFault}
 use Rattle.frames.specs.Faults.{file-told}
-use Rattle.rounds.specs.Stored.{SomeStored, FirstFault}
+use Rattle.banks.specs.declared.table.BankTable.{BankTable}
+use Rattle.rounds.specs.declared.record.RoundRecord.{RoundRecord}
+use Rattle.rounds.specs.Record.{Holds}
+use Rattle.rounds.specs.Stored.{IsStored, SomeStored, OnlyRound, FirstFault, OnlyFault}
 use Rattle.rounds.specs.Stored.FirstFault.{in-table, at-end}
 use Rattle.rounds.proofs.Ends.{gathered, list-fault, stored-whole, stored-held}
-use Rattle.rounds.proofs.OneRound.{stored-no-fault}
+use Rattle.rounds.proofs.OneRound.{stored-no-fault, one-round, one-first-fault}
 use Rattle.rounds.proofs.stored.read_round.Needs as need
 
 -- a fault leaves no round that the bytes could be the text of
@@ -25,18 +28,28 @@ decided : {X : Type 0} (bytes : List ℕ) (r : Result X FileFault) → Cases r (
 decided bytes (Ok x) s = (λ e. s, λ h. refl)
 decided bytes (Err e) f = refuted bytes (file-told e) f
 
+-- the answer is the only one
+only-round : (bytes : List ℕ) (t : BankTable) (xs : List ℕ) (r : RoundRecord) → IsStored bytes t xs → Holds r t xs → OnlyRound bytes r
+only-round bytes t xs r s h = record {
+  one = λ u ys k. let same = one-round bytes t xs s u ys k in record { table = h .table ∙ same .0; list = h .list ∙ same .1 };
+  faultless = stored-no-fault bytes t xs s
+}
+
+only-fault : (bytes : List ℕ) (r : Refusal) → FirstFault bytes r → OnlyFault bytes r
+only-fault bytes r f s g = one-first-fault bytes s r g f
+
 pub returns-in-Break-stored : need.returns-in-Break-stored
 returns-in-Break-stored c =
     let p = err-from-errBy (c .from-residual .result) (c .from-residual .ensures .1) in
     let fault = in-table (c .in-Break-stored .ensures tt) in
-    rw (p .1, p .2) (record { reply = (fault, refl); exact = refuted (c .args .bytes .now) _ fault })
+    rw (p .1, p .2) (record { reply = (fault, refl); exact = refuted (c .args .bytes .now) _ fault; only = only-fault (c .args .bytes .now) _ fault })
 
 pub returns-in-Break-list : need.returns-in-Break-list
 returns-in-Break-list c =
     let p = err-from-errBy (c .from-residual-in-Break-list .result) (c .from-residual-in-Break-list .ensures .1) in
     let s = c .in-Continue-stored .stored in
     let fault = list-fault (c .args .bytes .now) (s .table) (s .dwells) (s .end) _ (c .count .result) _ (c .in-Continue-stored .ensures tt .1) (c .count .ensures) refl (c .in-Break-list .ensures tt) in
-    rw (p .1, p .2) (record { reply = (fault, refl); exact = refuted (c .args .bytes .now) _ fault })
+    rw (p .1, p .2) (record { reply = (fault, refl); exact = refuted (c .args .bytes .now) _ fault; only = only-fault (c .args .bytes .now) _ fault })
 
 pub finish-requires : need.finish-requires
 finish-requires c κs =
@@ -55,5 +68,8 @@ returns c =
         (λ e h. (at-end (s .table) _ _ (g .lines) (h .0), h .1));
       exact = decided bytes (c .finish .result) (cases-weaker (c .finish .result) (c .finish .ensures)
         (λ x h. record { table = s .table; list = _; stored = stored-whole bytes (s .table) _ _ (g .lines) (h .0) })
-        (λ e h. at-end (s .table) _ _ (g .lines) (h .0)))
+        (λ e h. at-end (s .table) _ _ (g .lines) (h .0)));
+      only = cases-weaker (c .finish .result) (c .finish .ensures)
+        (λ x h. only-round bytes (s .table) _ _ (stored-whole bytes (s .table) _ _ (g .lines) (h .0)) (h .1))
+        (λ e h. only-fault bytes _ (at-end (s .table) _ _ (g .lines) (h .0)))
     }
