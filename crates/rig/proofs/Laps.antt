@@ -13,7 +13,11 @@ use lib.Arith.{digits-div, digits-mod}
 use Rattle.std.proofs.shelf.Tests.{cases-lt, cases-order, both-ways}
 use Rattle.rig.specs.Meaning.{Meaning, Laws, lawful, after}
 use Rattle.rig.specs.Orders.{Order, reached, LawfulTo, Endless, again, LawfulForEver}
-use Rattle.rig.specs.Checks.{list-order, lap-state, closes, LapRan, LapStopped, OnlyMoves, FirstClosing, FirstUnlawful, FirstNoMove}
+use Rattle.rig.specs.Checks.{list-order, lap-state, closes, LapRan, LapStopped, OnlyMoves, FirstClosing, FirstUnlawful, FirstNoMove, ListFault, told}
+use Rattle.rig.specs.Checks.ListFault.{no-move-at, unlawful-at}
+use Rattle.rig.specs.declared.check.Unfit.{Unfit}
+use Rattle.rig.specs.declared.check.Unfit.the-variants.{NoMove, Unlawful}
+use Rattle.refusals.specs.declared.Refusal.{Refusal}
 use Rattle.rig.proofs.Runs.{reached-agree, reached-add, lawful-fewer, lawful-move, Fresher, fresher-onward, fresher-reached, fresher-lawful, reached-proper, rest-fresher}
 
 -- the repetition at position k of any lap
@@ -225,3 +229,16 @@ module _ {S : Type 0} (m : Meaning S) (xs : List ℕ) where
           (omega (arith, quotients, el, ek), places))
       (λ differ. ⊎-elim (λ less. absurd (not-earlier l p k p′ a′ b′ less)) (λ more. absurd (not-earlier k p′ l p b′ a′ more)) differ)
       (cases-order (l * length xs + p) (k * length xs + p′))
+
+-- what each case of a refusal says
+abbrev pub Says : {S : Type 0} → Meaning S → List ℕ → Unfit → Type 0
+Says m xs (NoMove p) = FirstNoMove (m .moves) xs p
+Says m xs (Unlawful lap p) = FirstUnlawful m xs lap p
+
+pub list-says : {S : Type 0} (m : Meaning S) (xs : List ℕ) (e : Unfit) → ListFault m xs (told e) → Says m xs e
+list-says m xs (NoMove p) (no-move-at q h same) = subst (FirstNoMove (m .moves) xs) (sym (ap (λ (r : Refusal). r .position) same)) h
+list-says m xs (NoMove p) (unlawful-at lap q h same) = absurd (omega (arith, ap (λ (r : Refusal). r .number) same))
+list-says m xs (Unlawful lap p) (no-move-at q h same) = absurd (omega (arith, ap (λ (r : Refusal). r .number) same))
+list-says m xs (Unlawful lap p) (unlawful-at l q h same) =
+    subst (λ (k : ℕ). FirstUnlawful m xs k p) (sym (ap (λ (r : Refusal). r .lap) same))
+    (subst (FirstUnlawful m xs l) (sym (ap (λ (r : Refusal). r .position) same)) h)

@@ -67,9 +67,12 @@ module _ {S : Type 0} (m : Meaning S) (xs : List ℕ) where
     pub before : (k : ℕ) → k + 1 ≡ lap → LawfulTo m (m .rest) (again xs) (k * length xs + position)
     pub there : (k : ℕ) → k + 1 ≡ lap → lawful m (reached m (m .rest) (again xs) (k * length xs + position)) (getD xs position 0) ≡ false
 
-  -- The reply is exact: accepted with the first closing lap, and then the list is lawful for ever;
-  -- or refused where the first number is no move; or refused at the first unlawful move of the repetition.
+  -- The refusal tells why the list is no round: it is empty, or a number is no move; or its repetition has an unlawful move.
+  pub data ListFault (r : Refusal) : Type 0 where
+    no-move-at : (p : ℕ) → FirstNoMove (m .moves) xs p → r ≡ no-move p → ListFault r
+    unlawful-at : (lap p : ℕ) → FirstUnlawful lap p → r ≡ not-lawful lap p → ListFault r
+
+  -- The reply of the checker: accepted with the first closing lap, and then the list is lawful for ever; or refused, with the reason told.
   abbrev pub Checked : Result ℕ Unfit → Type 0
   Checked (Ok lap) = LawfulForEver m xs × FirstClosing lap
-  Checked (Err (NoMove p)) = FirstNoMove (m .moves) xs p
-  Checked (Err (Unlawful lap p)) = FirstUnlawful lap p
+  Checked (Err e) = ListFault (told e)

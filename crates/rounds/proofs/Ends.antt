@@ -13,7 +13,8 @@ use Rattle.refusals.specs.declared.Refusal.{Refusal}
 use Rattle.refusals.specs.Numbers.{not-lawful-in-file}
 use Rattle.rig.specs.declared.check.Unfit.{Unfit}
 use Rattle.rig.specs.declared.check.Unfit.the-variants.{NoMove, Unlawful}
-use Rattle.rig.specs.Checks.{Checked, OnlyMoves, FirstNoMove}
+use Rattle.rig.specs.Checks.{OnlyMoves, FirstNoMove}
+use Rattle.rig.proofs.Laps.{Says}
 use Rattle.frames.specs.declared.faults.FileFault.{FileFault}
 use Rattle.frames.specs.Faults.{file-told}
 use Rattle.banks.specs.declared.table.BankTable.{BankTable}
@@ -26,12 +27,12 @@ use Rattle.rounds.specs.Stored.{round-text, last-line, HasUnlawful, ToldAt, En
 use Rattle.rounds.specs.Stored.EndFault.{unlawful}
 use Rattle.rounds.specs.Stored.FirstFault.{in-list}
 
-pub has-unlawful : (t : BankTable) (xs : List ℕ) (u : Unfit) → OnlyMoves (t .count) xs → Checked (panelled t) xs (Err u) → HasUnlawful u
+pub has-unlawful : (t : BankTable) (xs : List ℕ) (u : Unfit) → OnlyMoves (t .count) xs → Says (panelled t) xs u → HasUnlawful u
 has-unlawful t xs (NoMove p) only bad =
     ⊎-elim (λ e. omega (arith, only .some-move)) (λ h. omega (arith, only .each p (h .0), h .1)) bad
 has-unlawful t xs (Unlawful lap p) only bad = tt
 
-pub end-unlawful : (t : BankTable) (xs rest : List ℕ) (line : ℕ) (u : Unfit) (f : FileFault) → Checked (panelled t) xs (Err u) → ToldAt line u f → line ≡ last-line t (length xs) → EndFault t xs rest (file-told f)
+pub end-unlawful : (t : BankTable) (xs rest : List ℕ) (line : ℕ) (u : Unfit) (f : FileFault) → Says (panelled t) xs u → ToldAt line u f → line ≡ last-line t (length xs) → EndFault t xs rest (file-told f)
 end-unlawful t xs rest line (NoMove p) f bad told e = absurd told
 end-unlawful t xs rest line (Unlawful lap p) f bad told e = unlawful lap p bad (ap file-told told ∙ ap (λ (n : ℕ). not-lawful-in-file n lap p) e)
 

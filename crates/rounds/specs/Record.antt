@@ -1,13 +1,12 @@
 -- What a round record holds, and when a list is refused.
 use mathlib.Core.Path.{_≡_}
-use mathlib.Core.List.{List, [], _∷_}
-use mathlib.Core.Logic.{_⊎_}
+use mathlib.Core.List.{List}
 use Prim.Native.Nat.{ℕ, _<_, _≤_}
 use lib.ListN.{length, take}
-use Rattle.rig.specs.declared.check.Unfit.{Unfit}
-use Rattle.rig.specs.declared.check.Unfit.the-variants.{NoMove, Unlawful}
+use Rattle.refusals.specs.declared.Refusal.{Refusal}
+use Rattle.refusals.specs.Numbers.{no-move}
 use Rattle.rig.specs.Orders.{LawfulForEver}
-use Rattle.rig.specs.Checks.{FirstNoMove, FirstUnlawful}
+use Rattle.rig.specs.Checks.{ListFault}
 use Rattle.banks.specs.declared.table.BankTable.{BankTable}
 use Rattle.banks.specs.Panelled.{panelled}
 use Rattle.rounds.specs.declared.record.RoundRecord.{RoundRecord}
@@ -27,8 +26,8 @@ pub record MakesRecord (t : BankTable) (xs : List ℕ) : Type 0 where
   pub few : length xs ≤ most-dwells
   pub kept : LawfulForEver (panelled t) xs
 
--- Why they do not: the list is too long, and the position is the first that has no place;
--- or it is empty or names a number that is no bank; or its repetition has an unlawful move.
-abbrev pub RecordRefused : BankTable → List ℕ → Unfit → Type 0
-RecordRefused t xs (NoMove p) = ((most-dwells < length xs) × (p ≡ most-dwells)) ⊎ ((length xs ≤ most-dwells) × FirstNoMove (t .count) xs p)
-RecordRefused t xs (Unlawful lap p) = (length xs ≤ most-dwells) × FirstUnlawful (panelled t) xs lap p
+-- The refusal tells why they do not: the list is too long, and the position is the first that has no place;
+-- or it is short enough, and the checker refuses it so on the panelled reader of the table.
+pub data RecordFault (t : BankTable) (xs : List ℕ) (r : Refusal) : Type 0 where
+  too-long : most-dwells < length xs → r ≡ no-move most-dwells → RecordFault t xs r
+  no-round : length xs ≤ most-dwells → ListFault (panelled t) xs r → RecordFault t xs r

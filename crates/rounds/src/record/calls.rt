@@ -7,10 +7,10 @@ ghost use Rattle.banks.specs.Limits.{most-banks, no-bank, stock-bank};
 ghost use Rattle.std.specs.Orderings.{Decides};
 ghost use Rattle.std.specs.Results.{Cases, isOk};
 ghost use Rattle.rig.specs.Orders.{LawfulForEver};
-ghost use Rattle.rig.specs.Checks.{FirstClosing};
+ghost use Rattle.rig.specs.Checks.{told};
 ghost use Rattle.banks.specs.Panelled.{panelled};
 ghost use Rattle.banks.specs.Stored.{most-dwells};
-ghost use Rattle.rounds.specs.Record.{list-of, Holds, MakesRecord, RecordRefused};
+ghost use Rattle.rounds.specs.Record.{list-of, Holds, MakesRecord, RecordFault};
 use crate::record::RoundRecord;
 use banks::BankTable;
 use banks::MOST_DWELLS;
@@ -68,7 +68,7 @@ impl RoundRecord {
 
     // Takes this table and this list where they make a record; a refusal leaves the record as it was.
     pub fn fill(&mut self, table: BankTable, list: &[u8]) -> Result<(), Unfit>
-        ensures reply { λ r. ⌜ Cases r (λ _. Holds (now (self .exit)) table (now (list .entry))) (λ e. RecordRefused table (now (list .entry)) e × (now (self .exit) ≡ now (self .entry))) ⌝ }
+        ensures reply { λ r. ⌜ Cases r (λ _. Holds (now (self .exit)) table (now (list .entry))) (λ e. RecordFault table (now (list .entry)) (told e) × (now (self .exit) ≡ now (self .entry))) ⌝ }
         ensures exact { λ r. ⌜ Decides (isOk r) (MakesRecord table (now (list .entry))) ⌝ }
     {
         if list.len() > MOST_DWELLS {

@@ -7,6 +7,7 @@ use Rattle.std.proofs.shelf.Tests.{false≢true}
 use Rattle.rig.specs.Meaning.{Meaning}
 use Rattle.rig.specs.Orders.{LawfulForEver}
 use Rattle.rig.specs.Checks.{FirstNoMove, OnlyMoves}
+use Rattle.rig.specs.Checks.ListFault.{no-move-at, unlawful-at}
 use Rattle.rig.proofs.Laps.{no-move-refutes, unlawful-refutes, going-start, going-stop, going-closes, going-ages, going-on}
 use Rattle.rig.proofs.check.check_list.Needs as need
 
@@ -15,7 +16,7 @@ returns-in-Some g c =
     let m = g .R·Rig .means (c .args .rig .now) in
     let bad = subst (λ (n : ℕ). FirstNoMove n (c .args .list .now) (c .in-Some .position)) (c .moves .ensures .value) (c .in-Some .ensures tt) in
     record {
-      reply = bad;
+      reply = no-move-at (c .in-Some .position) bad refl;
       exact = (λ e. absurd (false≢true e), λ good. absurd (no-move-refutes m (c .args .list .now) (c .in-Some .position) bad good));
     }
 
@@ -30,7 +31,7 @@ returns-in-Err g c =
     let m = g .R·Rig .means (c .args .rig .now) in
     let bad = going-stop m (c .args .list .now) (c .loop-s .lap) (c .loop-s .first) (c .in-Err .position) (c .loop-s .inv) (c .in-Err .ensures tt) in
     record {
-      reply = bad;
+      reply = unlawful-at (c .loop-s .lap) (c .in-Err .position) bad refl;
       exact = (λ e. absurd (false≢true e), λ good. absurd (unlawful-refutes m (c .args .list .now) (c .loop-s .lap) (c .in-Err .position) bad good));
     }
 
