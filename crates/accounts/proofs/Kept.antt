@@ -20,7 +20,7 @@ module _ (r : RoundRecord) (t : BankTable) (xs : List ℕ) (same-table : t ≡ r
   pub list-kept : LawfulForEver (panelled t) xs
   list-kept = record {
     some-move = let s = r .some in omega (arith, long);
-    endless = subst (λ (ys : List ℕ). Endless (panelled t) rest-state (again ys)) (sym same) (subst (λ (u : BankTable). Endless (panelled u) rest-state (again (list-of r))) (sym same-table) (r .kept))
+    endless = subst (λ (ys : List ℕ). Endless (panelled t) rest-state (again ys)) (sym same) (subst (λ (u : BankTable). Endless (panelled u) rest-state (again (list-of r))) (sym same-table) (r .kept));
   }
 
   pub list-few : length xs ≤ most-dwells

@@ -101,8 +101,16 @@ impl fmt::Display for RoundAccount as RoundAccountDisplay {
 
 impl fmt::Display for BankAccount as BankAccountDisplay {
     fn fmt<W: fmt::Write>(&self, f: &mut fmt::Formatter<W>) -> fmt::Result {
-        write!(f, "panel {}, dwell {}, gap {}, ", self.panel, self.dwell, self.gap)?;
-        write!(f, "dwells {}, longest wait {}, slack {}", self.dwells, self.longest, self.slack)
+        write!(
+            f,
+            "panel {}, dwell {}, gap {}, ",
+            self.panel, self.dwell, self.gap
+        )?;
+        write!(
+            f,
+            "dwells {}, longest wait {}, slack {}",
+            self.dwells, self.longest, self.slack
+        )
     }
 }
 

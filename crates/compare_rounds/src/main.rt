@@ -32,7 +32,10 @@ fn case_at(bytes: &[u8], at: usize) -> Case
         }
         size = size.saturating_mul(10).saturating_add((b - b'0') as usize);
     }
-    Case { from: bytes.len(), size }
+    Case {
+        from: bytes.len(),
+        size,
+    }
 }
 
 fn answer(rt: &LibcRuntime, bytes: &[u8]) -> io::Result<()> {

@@ -98,18 +98,39 @@ pub impl fmt::Display for FileFault as FileFaultDisplay {
         let column = told.column;
         match *self {
             FileFault::TooLong => write!(f, "The file is longer than 65,536 bytes."),
-            FileFault::Unclosed { .. } => write!(f, "Line {line}: the line is lacking, or it is not closed by byte 0A."),
-            FileFault::AfterEnd { .. } => write!(f, "Line {line}: something stands after the end of the round."),
-            FileFault::Misplaced { .. } => write!(f, "Line {line}: a frame of another kind is due here."),
-            FileFault::Field { .. } => write!(f, "Line {line}, column {column}: the field is outside its limits."),
+            FileFault::Unclosed { .. } => write!(
+                f,
+                "Line {line}: the line is lacking, or it is not closed by byte 0A."
+            ),
+            FileFault::AfterEnd { .. } => write!(
+                f,
+                "Line {line}: something stands after the end of the round."
+            ),
+            FileFault::Misplaced { .. } => write!(
+                f,
+                "Line {line}: a frame of another kind is due here."
+            ),
+            FileFault::Field { .. } => write!(
+                f,
+                "Line {line}, column {column}: the field is outside its limits."
+            ),
             FileFault::Unlawful { lap, position, .. } => {
-                write!(f, "Line {line}: the round is not kept for ever: the dwell at position {position} of lap {lap} makes a bank wait longer than its gap.")
+                write!(
+                    f,
+                    "Line {line}: the round is not kept for ever: the dwell at position {position} of lap {lap} makes a bank wait longer than its gap."
+                )
             }
             FileFault::Frame(FrameFault::Digit(_)) => {
-                write!(f, "Line {line}, column {column}: the byte is no upper-case hexadecimal digit.")
+                write!(
+                    f,
+                    "Line {line}, column {column}: the byte is no upper-case hexadecimal digit."
+                )
             }
             FileFault::Frame(FrameFault::Shape { .. }) => {
-                write!(f, "Line {line}: the line is no frame: its kind is unknown, or its number of digits is not that of its kind.")
+                write!(
+                    f,
+                    "Line {line}: the line is no frame: its kind is unknown, or its number of digits is not that of its kind."
+                )
             }
         }
     }

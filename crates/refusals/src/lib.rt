@@ -20,20 +20,38 @@ impl Refusal {
     pub fn in_file(number: u8, line: u32, column: u32) -> Refusal
         ensures { λ r. ⌜ r ≡ at-place number line column ⌝ }
     {
-        Refusal { number, line, column, lap: 0, position: 0, length: 0 }
+        Refusal {
+            number,
+            line,
+            column,
+            lap: 0,
+            position: 0,
+            length: 0,
+        }
     }
 
     // A refusal of a list of moves, by lap and position.
     pub fn in_list(number: u8, lap: u32, position: usize) -> Refusal
         ensures { λ r. ⌜ r ≡ at-move number lap position ⌝ }
     {
-        Refusal { number, line: 0, column: 0, lap, position, length: 0 }
+        Refusal {
+            number,
+            line: 0,
+            column: 0,
+            lap,
+            position,
+            length: 0,
+        }
     }
 }
 
 // The frame of a refusal of a file: 1F, number, line, column.
 pub impl fmt::Display for Refusal as RefusalDisplay {
     fn fmt<W: fmt::Write>(&self, f: &mut fmt::Formatter<W>) -> fmt::Result {
-        write!(f, "1F{:02X}{:08X}{:08X}", self.number, self.line, self.column)
+        write!(
+            f,
+            "1F{:02X}{:08X}{:08X}",
+            self.number, self.line, self.column
+        )
     }
 }

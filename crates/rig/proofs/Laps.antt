@@ -224,9 +224,9 @@ module _ {S : Type 0} (m : Meaning S) (xs : List ℕ) where
       let b′ = subst (λ (n : ℕ). FirstUnlawful m xs n p′) (sym ek) b in
       ⊎-elim
       (λ same.
-          let quotients = sym (digits-div l (a .within)) ∙ ap (λ (n : ℕ). n / length xs) same ∙ digits-div k (b .within) in
-          let places = sym (digits-mod l (a .within)) ∙ ap (λ (n : ℕ). n % length xs) same ∙ digits-mod k (b .within) in
-          (omega (arith, quotients, el, ek), places))
+      let quotients = sym (digits-div l (a .within)) ∙ ap (λ (n : ℕ). n / length xs) same ∙ digits-div k (b .within) in
+      let places = sym (digits-mod l (a .within)) ∙ ap (λ (n : ℕ). n % length xs) same ∙ digits-mod k (b .within) in
+      (omega (arith, quotients, el, ek), places))
       (λ differ. ⊎-elim (λ less. absurd (not-earlier l p k p′ a′ b′ less)) (λ more. absurd (not-earlier k p′ l p b′ a′ more)) differ)
       (cases-order (l * length xs + p) (k * length xs + p′))
 

@@ -46,12 +46,12 @@ list-read banks bytes xs rest dwells behind h l =
     let front = part-lines xs (parts-of (length xs)) in
     let size = ap length (h .text) ∙ length-append front rest in
     let tail : drop (length bytes - length rest) bytes ≡ rest =
-        ap (drop (length bytes - length rest)) (h .text) ∙ drop-at front rest (length bytes - length rest) (omega arith) in
+    ap (drop (length bytes - length rest)) (h .text) ∙ drop-at front rest (length bytes - length rest) (omega arith) in
     record {
       within = omega arith;
       fits = ap length same ∙ l;
       read = subst (λ (ys : List ℕ). PartsRead banks bytes ys (drop (length bytes - length rest) bytes)) (sym same)
-        (subst (PartsRead banks bytes xs) (sym tail) h)
+          (subst (PartsRead banks bytes xs) (sym tail) h);
     }
 
 -- the first places of a room that is large enough
@@ -75,17 +75,17 @@ gathered bytes t dwells end lines count room list-end table c at-lines list =
     let parts = part-lines xs (parts-of (length xs)) in
     let long = list .fits in
     let text : bytes ≡ head ++ (banks ++ (parts ++ rest)) =
-        table .text ∙ ap (λ (ys : List ℕ). head ++ (banks ++ ys)) (sym same-lines ∙ list .read .text) in
+    table .text ∙ ap (λ (ys : List ℕ). head ++ (banks ++ ys)) (sym same-lines ∙ list .read .text) in
     let joined : bytes ≡ (head ++ (banks ++ parts)) ++ rest =
-        text ∙ ap (λ (ys : List ℕ). head ++ ys) (sym (append-assoc banks parts rest)) ∙ sym (append-assoc head (banks ++ parts) rest) in
+    text ∙ ap (λ (ys : List ℕ). head ++ ys) (sym (append-assoc banks parts rest)) ∙ sym (append-assoc head (banks ++ parts) rest) in
     let whole : bytes ≡ round-text t xs ++ rest =
-        joined ∙ ap (λ (n : ℕ). (head-line (t .count) (t .settle) n ++ (banks ++ parts)) ++ rest) (sym long) in
+    joined ∙ ap (λ (n : ℕ). (head-line (t .count) (t .settle) n ++ (banks ++ parts)) ++ rest) (sym long) in
     let good : Gathered bytes t xs rest = record {
       lines = record { size = table .size; few = subst (λ (n : ℕ). n ≤ most-dwells) (sym long) (table .few-dwells); text = whole };
       moves = record {
         some-move = subst (λ (n : ℕ). 0 < n) (sym long) (table .some-dwell);
-        each = λ k h. subst (λ (n : ℕ). getD xs k 0 < n) c (list .read .only k h)
-      }
+        each = λ k h. subst (λ (n : ℕ). getD xs k 0 < n) c (list .read .only k h);
+      };
     } in
     subst (λ (ys : List ℕ). Gathered bytes t ys (take (length lines - list-end) (drop list-end lines))) (sym same)
     (subst (Gathered bytes t xs) (sym same-rest) good)
@@ -101,7 +101,7 @@ pub stored-whole : (bytes : List ℕ) (t : BankTable) (xs rest : List ℕ) → L
 stored-whole bytes t xs rest lines ended = record {
   few = lines .few;
   kept = ended .kept;
-  text = lines .text ∙ ap (λ (ys : List ℕ). round-text t xs ++ ys) (nil-from-length rest (ended .nothing)) ∙ append-nil (round-text t xs)
+  text = lines .text ∙ ap (λ (ys : List ℕ). round-text t xs ++ ys) (nil-from-length rest (ended .nothing)) ∙ append-nil (round-text t xs);
 }
 
 pub stored-held : (bytes : List ℕ) (t : BankTable) (xs : List ℕ) (r : RoundRecord) → IsStored bytes t xs → Holds r t xs → IsStored bytes (r .table) (list-of r)

@@ -98,16 +98,18 @@ lines-at xs n zero h = absurd (not-suc-le-zero h)
 lines-at xs n (suc m) h =
     ⊎-elim
     (λ early.
-        let q = lines-at xs n m early in
-        ( q .0 ++ part-line (part xs m)
-        , lines-next xs m ∙ ap (λ (ys : List ℕ). ys ++ part-line (part xs m)) (q .1)
+    let q = lines-at xs n m early in (
+      q .0 ++ part-line (part xs m),
+      lines-next xs m ∙ ap (λ (ys : List ℕ). ys ++ part-line (part xs m)) (q .1)
           ∙ append-assoc (part-lines xs n) (part-line (part xs n) ++ q .0) (part-line (part xs m))
-          ∙ ap (λ (ys : List ℕ). part-lines xs n ++ ys) (append-assoc (part-line (part xs n)) (q .0) (part-line (part xs m))) ))
+          ∙ ap (λ (ys : List ℕ). part-lines xs n ++ ys) (append-assoc (part-line (part xs n)) (q .0) (part-line (part xs m))),
+    ))
     (λ late.
-        let e : m ≡ n = omega arith in
-        ( []
-        , subst (λ (k : ℕ). part-lines xs (suc k) ≡ part-lines xs n ++ (part-line (part xs n) ++ [])) (sym e)
-          (lines-next xs n ∙ ap (λ (ys : List ℕ). part-lines xs n ++ ys) (sym (append-nil (part-line (part xs n))))) ))
+    let e : m ≡ n = omega arith in (
+      [],
+      subst (λ (k : ℕ). part-lines xs (suc k) ≡ part-lines xs n ++ (part-line (part xs n) ++ [])) (sym e)
+          (lines-next xs n ∙ ap (λ (ys : List ℕ). part-lines xs n ++ ys) (sym (append-nil (part-line (part xs n))))),
+    ))
     (cases-lt n m)
 
 -- no column is told where every bank is one of the table
@@ -134,7 +136,7 @@ good-part banks due bytes zs after hb hd l only e =
       text = e ∙ ap (λ (ys : List ℕ). numeral 2 19 ++ (numeral 2 (length zs) ++ ys)) (append-assoc (joined (numeral 2) zs) (10 ∷ []) after);
       digits = digits-append (numeral 2 (length zs)) (joined (numeral 2) zs) (numeral-digits 2 (length zs)) (pairs-digits zs);
       shaped = record { known = omega arith; fits = long ∙ ap (λ (k : ℕ). 2 + 2 * k) count };
-      within = cond-true _ _ _ (eq-eqb (value (numeral 2 (length zs))) due (sym count ∙ l)) ∙ subst (λ (k : ℕ). bad-bank banks k 5 (joined (numeral 2) zs) ≡ 0) l (good-pairs banks 5 zs hb only)
+      within = cond-true _ _ _ (eq-eqb (value (numeral 2 (length zs))) due (sym count ∙ l)) ∙ subst (λ (k : ℕ). bad-bank banks k 5 (joined (numeral 2) zs) ≡ 0) l (good-pairs banks 5 zs hb only);
     }
 
 part-only : (banks : ℕ) (xs : List ℕ) (k : ℕ) → OnlyBanks banks xs → OnlyBanks banks (part xs k)
@@ -149,9 +151,9 @@ front-no-fault banks dwells m xs rest bytes r hb only text f within full due-is 
     let n = f .good in
     let at = lines-at xs n m within in
     let left : length (part-lines xs n) ≡ length (part-lines (f .listed) n) =
-        length-full xs n full ∙ sym (length-full (f .listed) n (let e = f .full in omega arith)) in
+    length-full xs n full ∙ sym (length-full (f .listed) n (let e = f .full in omega arith)) in
     let whole : part-lines xs n ++ ((part-line (part xs n) ++ at .0) ++ rest) ≡ part-lines (f .listed) n ++ f .rest =
-        sym (append-assoc (part-lines xs n) (part-line (part xs n) ++ at .0) rest) ∙ ap (λ (ys : List ℕ). ys ++ rest) (sym (at .1)) ∙ sym text ∙ f .text in
+    sym (append-assoc (part-lines xs n) (part-line (part xs n) ++ at .0) rest) ∙ ap (λ (ys : List ℕ). ys ++ rest) (sym (at .1)) ∙ sym text ∙ f .text in
     let tail = same-split (part-lines xs n) (part-lines (f .listed) n) ((part-line (part xs n) ++ at .0) ++ rest) (f .rest) left whole .1 in
     let line : f .rest ≡ part-line (part xs n) ++ (at .0 ++ rest) = sym tail ∙ append-assoc (part-line (part xs n)) (at .0) rest in
     let due = part-due (dwells - part-size * n) in
@@ -174,17 +176,17 @@ one-parts-fault banks dwells bytes r s hb f g =
     let mb = g .more in
     ⊎-elim
     (λ same.
-        let lengths : length (part-lines (f .listed) (f .good)) ≡ length (part-lines (g .listed) (g .good)) =
-            length-full (f .listed) (f .good) (omega arith) ∙ ap (λ (n : ℕ). 37 * n) same ∙ sym (length-full (g .listed) (g .good) (omega arith)) in
-        let rests = same-split (part-lines (f .listed) (f .good)) (part-lines (g .listed) (g .good)) (f .rest) (g .rest) lengths (sym (f .text) ∙ g .text) .1 in
-        let bad = subst (λ (n : ℕ). BadLine 19 (part-column banks (part-due (dwells - part-size * n))) (g .rest) ((2 + banks) + n) r) same
-            (subst (λ (ys : List ℕ). BadLine 19 (part-column banks (part-due (dwells - part-size * f .good))) ys ((2 + banks) + f .good) r) rests (f .bad)) in
-        one-bad-line 19 (part-column banks (part-due (dwells - part-size * g .good))) (g .rest) ((2 + banks) + g .good) r s bad (g .bad))
+    let lengths : length (part-lines (f .listed) (f .good)) ≡ length (part-lines (g .listed) (g .good)) =
+    length-full (f .listed) (f .good) (omega arith) ∙ ap (λ (n : ℕ). 37 * n) same ∙ sym (length-full (g .listed) (g .good) (omega arith)) in
+    let rests = same-split (part-lines (f .listed) (f .good)) (part-lines (g .listed) (g .good)) (f .rest) (g .rest) lengths (sym (f .text) ∙ g .text) .1 in
+    let bad = subst (λ (n : ℕ). BadLine 19 (part-column banks (part-due (dwells - part-size * n))) (g .rest) ((2 + banks) + n) r) same
+    (subst (λ (ys : List ℕ). BadLine 19 (part-column banks (part-due (dwells - part-size * f .good))) ys ((2 + banks) + f .good) r) rests (f .bad)) in
+    one-bad-line 19 (part-column banks (part-due (dwells - part-size * g .good))) (g .rest) ((2 + banks) + g .good) r s bad (g .bad))
     (λ differ.
-        ⊎-elim
-        (λ less. absurd (front-no-fault banks dwells (g .good) (g .listed) (g .rest) bytes r hb (g .only) (g .text) f less (omega arith) (omega arith)))
-        (λ more. absurd (front-no-fault banks dwells (f .good) (f .listed) (f .rest) bytes s hb (f .only) (f .text) g more (omega arith) (omega arith)))
-        differ)
+    ⊎-elim
+    (λ less. absurd (front-no-fault banks dwells (g .good) (g .listed) (g .rest) bytes r hb (g .only) (g .text) f less (omega arith) (omega arith)))
+    (λ more. absurd (front-no-fault banks dwells (f .good) (f .listed) (f .rest) bytes s hb (f .only) (f .text) g more (omega arith) (omega arith)))
+    differ)
     (cases-order (f .good) (g .good))
 
 line-pairs : (zs ws : List ℕ) → part-line zs ≡ part-line ws → joined (numeral 2) zs ≡ joined (numeral 2) ws
@@ -195,7 +197,7 @@ parts-same xs ys zero hx hy l e k below = absurd (not-suc-le-zero below)
 parts-same xs ys (suc n) hx hy l e k below =
     let q = same-split (part-lines xs n) (part-lines ys n) (part-line (part xs n)) (part-line (part ys n)) (length-lines xs ys n l) (sym (lines-next xs n) ∙ e ∙ lines-next ys n) in
     let last : part xs n ≡ part ys n =
-        pairs-same (part xs n) (part ys n) (part-only 256 xs n hx) (part-only 256 ys n hy) (length-part xs n ∙ ap (λ (m : ℕ). min part-size (m - part-size * n)) l ∙ sym (length-part ys n)) (line-pairs (part xs n) (part ys n) (q .1)) in
+    pairs-same (part xs n) (part ys n) (part-only 256 xs n hx) (part-only 256 ys n hy) (length-part xs n ∙ ap (λ (m : ℕ). min part-size (m - part-size * n)) l ∙ sym (length-part ys n)) (line-pairs (part xs n) (part ys n) (q .1)) in
     ⊎-elim (λ early. parts-same xs ys n hx hy l (q .0) k early) (λ late. let is : n ≡ k = omega arith in subst (λ (m : ℕ). part xs m ≡ part ys m) is last) (cases-lt k n)
 
 -- a bank of the list, in its part
@@ -210,11 +212,12 @@ pub one-list : (xs ys x y : List ℕ) → Small xs → Small ys → length xs �
 one-list xs ys x y hx hy l e =
     let n = parts-of (length xs) in
     let e′ : part-lines xs n ++ x ≡ part-lines ys n ++ y = e ∙ ap (λ (m : ℕ). part-lines ys (parts-of m) ++ y) (sym l) in
-    let q = same-split (part-lines xs n) (part-lines ys n) x y (length-lines xs ys n l) e′ in
-    ( ext-getD 0 xs ys l (λ i h.
-        let within : i / part-size < n = omega arith in
-        in-part xs i ∙ ap (λ (zs : List ℕ). getD zs (i % part-size) 0) (parts-same xs ys n hx hy l (q .0) (i / part-size) within) ∙ sym (in-part ys i))
-    , q .1 )
+    let q = same-split (part-lines xs n) (part-lines ys n) x y (length-lines xs ys n l) e′ in (
+      ext-getD 0 xs ys l (λ i h.
+          let within : i / part-size < n = omega arith in
+          in-part xs i ∙ ap (λ (zs : List ℕ). getD zs (i % part-size) 0) (parts-same xs ys n hx hy l (q .0) (i / part-size) within) ∙ sym (in-part ys i)),
+      q .1,
+    )
 
 length-banks : (bs : List Bank) (n : ℕ) → length (bank-lines bs n) ≡ 15 * n
 unfolding bank-lines
@@ -236,8 +239,8 @@ lines-table bytes u ys rest h some = record {
   some-dwell = some;
   few-dwells = h .few;
   text = h .text
-    ∙ append-assoc (head-line (u .count) (u .settle) (length ys)) (bank-lines (u .banks) (u .count) ++ part-lines ys (parts-of (length ys))) rest
-    ∙ ap (λ (zs : List ℕ). head-line (u .count) (u .settle) (length ys) ++ zs) (append-assoc (bank-lines (u .banks) (u .count)) (part-lines ys (parts-of (length ys))) rest)
+      ∙ append-assoc (head-line (u .count) (u .settle) (length ys)) (bank-lines (u .banks) (u .count) ++ part-lines ys (parts-of (length ys))) rest
+      ∙ ap (λ (zs : List ℕ). head-line (u .count) (u .settle) (length ys) ++ zs) (append-assoc (bank-lines (u .banks) (u .count)) (part-lines ys (parts-of (length ys))) rest);
 }
 
 -- lines that were read to their end: the list has a dwell, and names banks of the table only
@@ -267,7 +270,7 @@ same-lines bytes t u xs ys x y g h a b =
     record {
       table = table-same bytes t u (length xs) (length ys) (part-lines xs (parts-of (length xs)) ++ x) (part-lines ys (parts-of (length ys)) ++ y) first second;
       list = lists .0;
-      rest = lists .1
+      rest = lists .1;
     }
 
 -- the end has one fault
@@ -284,7 +287,7 @@ list-or-end bytes t d rest r u ys y h f g a =
     let lines = part-lines ys (parts-of (length ys)) ++ y in
     let same = one-table bytes t u d (length ys) rest lines h (lines-table bytes u ys y g (a .some)) in
     let f′ = subst (λ (n : ℕ). PartsFault n (length ys) lines r) (same .count)
-        (subst (λ (n : ℕ). PartsFault (t .count) n lines r) (same .dwells) (subst (λ (zs : List ℕ). PartsFault (t .count) d zs r) (same .rest) f)) in
+    (subst (λ (n : ℕ). PartsFault (t .count) n lines r) (same .dwells) (subst (λ (zs : List ℕ). PartsFault (t .count) d zs r) (same .rest) f)) in
     lines-no-fault (u .count) ys y r (let few = u .few in omega arith) (a .only) f′
 
 table-or-end : (bytes : List ℕ) (r : Refusal) (u : BankTable) (ys y : List ℕ) → TableFault bytes r → LinesRead bytes u ys y → Ending u ys → ⊥

@@ -46,7 +46,7 @@ bad-from-here banks due ds k h =
     ap (λ (n : ℕ). bad-bank banks n (5 + 2 * k) (drop (2 * k) ds)) e
     ∙ bad-bank-next banks (due - (k + 1)) (5 + 2 * k) (drop (2 * k) ds)
     ∙ ap (λ (x : ℕ). cond (ltb (field (2 * k) 2 ds) banks) x (5 + 2 * k))
-      (ap₂ (bad-bank banks (due - (k + 1))) c (drop-drop 2 (2 * k) ds ∙ ap (λ (n : ℕ). drop n ds) d))
+    (ap₂ (bad-bank banks (due - (k + 1))) c (drop-drop 2 (2 * k) ds ∙ ap (λ (n : ℕ). drop n ds) d))
 
 pub bad-from-bad : (banks due : ℕ) (ds : List ℕ) (k : ℕ) → k < due → banks ≤ field (2 * k) 2 ds → bad-from banks due ds k ≡ 5 + 2 * k
 bad-from-bad banks due ds k h b = bad-from-here banks due ds k h ∙ cond-false _ _ _ (le-ltb (field (2 * k) 2 ds) banks b)
@@ -66,8 +66,10 @@ good-from banks due ds (suc k) e h =
     let before = good-from banks due ds k e (omega arith) in
     let within : k < due = omega arith in
     ⊎-elim
-    (λ good. ( ap (bad-from banks due ds) (sym (add-one k)) ∙ sym (bad-from-good banks due ds k within good) ∙ before .0
-             , λ i below. ⊎-elim (λ l. before .1 i l) (λ l. let e′ : k ≡ i = omega arith in subst (λ (n : ℕ). field (2 * n) 2 ds < banks) e′ good) (cases-lt i k) ))
+    (λ good. (
+      ap (bad-from banks due ds) (sym (add-one k)) ∙ sym (bad-from-good banks due ds k within good) ∙ before .0,
+      λ i below. ⊎-elim (λ l. before .1 i l) (λ l. let e′ : k ≡ i = omega arith in subst (λ (n : ℕ). field (2 * n) 2 ds < banks) e′ good) (cases-lt i k),
+    ))
     (λ bad. absurd (omega (arith, bad-from-bad banks due ds k within bad, before .0)))
     (cases-lt (field (2 * k) 2 ds) banks)
 
@@ -78,7 +80,7 @@ pairs-text (x ∷ xs) ds t l e =
     let long : 0 + 2 ≤ length ds = omega arith in
     let first = field-text 0 2 ds t long in
     let rest = pairs-text xs (drop 2 ds) (digits-drop ds 2 t) (length-drop 2 ds ∙ (omega arith))
-        (λ k h. e (suc k) (omega arith) ∙ ap (λ (ys : List ℕ). value (take 2 ys)) (let n : 2 * suc k ≡ 2 + 2 * k = omega arith in ap (λ (i : ℕ). drop i ds) n ∙ sym (drop-drop (2 * k) 2 ds))) in
+    (λ k h. e (suc k) (omega arith) ∙ ap (λ (ys : List ℕ). value (take 2 ys)) (let n : 2 * suc k ≡ 2 + 2 * k = omega arith in ap (λ (i : ℕ). drop i ds) n ∙ sym (drop-drop (2 * k) 2 ds))) in
     first ∙ ap₂ (λ (n : ℕ) (ys : List ℕ). numeral 2 n ++ ys) (sym (e 0 (omega arith))) rest
 
 pub pair-small : (ds : List ℕ) (place : ℕ) → AllDigits ds → place + 2 ≤ length ds → field place 2 ds < 256
@@ -103,11 +105,12 @@ part-text bytes body after xs banks e t l good is =
     let low = good-from banks n ds n start (omega arith) .1 in
     let size : length ds ≡ 2 * n = length-drop 2 body ∙ (omega (arith, l, g .0)) in
     let pairs = pairs-text xs ds (digits-drop body 2 t) size is in
-    let count = field-text 0 2 body t (omega (arith, l)) in
-    ( (λ k h. subst (λ (x : ℕ). x < banks) (sym (is k h)) (low k h))
-    , e
-      ∙ ap (λ (ys : List ℕ). numeral 2 19 ++ (ys ++ (10 ∷ after))) (count ∙ ap₂ (λ (i : ℕ) (ys : List ℕ). numeral 2 i ++ ys) (g .0) pairs)
-      ∙ ap (λ (ys : List ℕ). numeral 2 19 ++ (numeral 2 n ++ ys)) (sym (append-assoc (joined (numeral 2) xs) (10 ∷ []) after)) )
+    let count = field-text 0 2 body t (omega (arith, l)) in (
+      (λ k h. subst (λ (x : ℕ). x < banks) (sym (is k h)) (low k h)),
+      e
+          ∙ ap (λ (ys : List ℕ). numeral 2 19 ++ (ys ++ (10 ∷ after))) (count ∙ ap₂ (λ (i : ℕ) (ys : List ℕ). numeral 2 i ++ ys) (g .0) pairs)
+          ∙ ap (λ (ys : List ℕ). numeral 2 19 ++ (numeral 2 n ++ ys)) (sym (append-assoc (joined (numeral 2) xs) (10 ∷ []) after)),
+    )
 
 -- a frame that is no part of a list is of another kind
 pub not-part : (f : Frame) → ((x : RefT (List ℕ)) → f ≡ RoundPart x → ⊥) → kind-of f ≡ 19 → ⊥
@@ -135,7 +138,7 @@ part-frame bytes f b after e h =
       digits = read-digits bytes (RoundPart b) after r;
       size = read-length bytes (RoundPart b) after r;
       text = frame-text bytes (RoundPart b) after r;
-      bad = λ bad-column line column is some. bad-frame bad-column bytes line (RoundPart b) after column r is some
+      bad = λ bad-column line column is some. bad-frame bad-column bytes line (RoundPart b) after column r is some;
     }
 
 pub part-lines-more : (xs : List ℕ) (n : ℕ) → part-lines xs (n + 1) ≡ part-lines xs n ++ part-line (part xs n)
@@ -184,12 +187,12 @@ module _ (xs piece : List ℕ) (n end : ℕ) (more : part-size * n < length xs) 
   part-is =
       ap (take part-size) from-there
       ∙ ⊎-elim
-        (λ whole. take-at piece (drop (end - part-size * n) (drop (part-size * n) xs)) part-size (omega arith))
-        (λ last.
-            let few : length piece ≤ part-size = omega arith in
-            let none = drop-all (end - part-size * n) (drop (part-size * n) xs) (let e = length-drop (part-size * n) xs in omega arith) in
-            ap (λ (ys : List ℕ). take part-size (piece ++ ys)) none ∙ ap (take part-size) (append-nil piece) ∙ take-all part-size piece few)
-        (cases-lt (part-size * n + 15) (length xs))
+      (λ whole. take-at piece (drop (end - part-size * n) (drop (part-size * n) xs)) part-size (omega arith))
+      (λ last.
+      let few : length piece ≤ part-size = omega arith in
+      let none = drop-all (end - part-size * n) (drop (part-size * n) xs) (let e = length-drop (part-size * n) xs in omega arith) in
+      ap (λ (ys : List ℕ). take part-size (piece ++ ys)) none ∙ ap (take part-size) (append-nil piece) ∙ take-all part-size piece few)
+      (cases-lt (part-size * n + 15) (length xs))
 
   piece-at : (i : ℕ) → i < length piece → getD new (part-size * n + i) 0 ≡ getD piece i 0
   piece-at i h =
@@ -207,21 +210,21 @@ module _ (xs piece : List ℕ) (n end : ℕ) (more : part-size * n < length xs) 
   unfolding new
   parts-step banks bytes left after g only e =
       let rows : part-lines xs n ++ part-line piece ≡ part-lines new (n + 1) =
-          ap₂ (λ (a b : List ℕ). a ++ part-line b) (part-lines-same xs new n (sym front-kept)) (sym part-is) ∙ sym (part-lines-more new n) in
+      ap₂ (λ (a b : List ℕ). a ++ part-line b) (part-lines-same xs new n (sym front-kept)) (sym part-is) ∙ sym (part-lines-more new n) in
       record {
         text = g .text ∙ ap (λ (ys : List ℕ). part-lines xs n ++ ys) e ∙ sym (append-assoc (part-lines xs n) (part-line piece) after) ∙ ap (λ (ys : List ℕ). ys ++ after) rows;
         only = λ k below within.
             ⊎-elim
             (λ early.
-                let same : getD new k 0 ≡ getD xs k 0 = sym (getD-take (part-size * n) new k 0 early) ∙ ap (λ (ys : List ℕ). getD ys k 0) front-kept ∙ getD-take (part-size * n) xs k 0 early in
-                subst (λ (x : ℕ). x < banks) (sym same) (g .only k early (omega (arith, new-length))))
+            let same : getD new k 0 ≡ getD xs k 0 = sym (getD-take (part-size * n) new k 0 early) ∙ ap (λ (ys : List ℕ). getD ys k 0) front-kept ∙ getD-take (part-size * n) xs k 0 early in
+            subst (λ (x : ℕ). x < banks) (sym same) (g .only k early (omega (arith, new-length))))
             (λ late.
-                let i : k ≡ part-size * n + (k - part-size * n) = omega arith in
-                let inside : k - part-size * n < length piece = omega (arith, new-length) in
-                let same = ap (λ (j : ℕ). getD new j 0) i ∙ piece-at (k - part-size * n) inside in
-                subst (λ (x : ℕ). x < banks) (sym same) (only (k - part-size * n) inside))
+            let i : k ≡ part-size * n + (k - part-size * n) = omega arith in
+            let inside : k - part-size * n < length piece = omega (arith, new-length) in
+            let same = ap (λ (j : ℕ). getD new j 0) i ∙ piece-at (k - part-size * n) inside in
+            subst (λ (x : ℕ). x < banks) (sym same) (only (k - part-size * n) inside))
             (cases-lt k (part-size * n));
-        short = let l = ap length e ∙ length-append (part-line piece) after in let s = g .short in omega arith
+        short = let l = ap length e ∙ length-append (part-line piece) after in let s = g .short in omega arith;
       }
 
 pub parts-start : (banks : ℕ) (bytes xs : List ℕ) → length bytes ≤ 65536 → PartsGoing banks bytes xs bytes 0
@@ -241,5 +244,5 @@ parts-fault banks bytes xs left n end r g more ends bad =
       more = more;
       only = λ k h. let early : k < part-size * n = omega (arith, full) in subst (λ (x : ℕ). x < banks) (sym (getD-take (part-size * n) xs k 0 early)) (g .only k early (omega arith));
       text = g .text ∙ ap (λ (ys : List ℕ). ys ++ left) (part-lines-front xs n n (omega arith));
-      bad = subst (λ (d : ℕ). BadLine 19 (part-column banks d) left ((2 + banks) + n) r) due bad
+      bad = subst (λ (d : ℕ). BadLine 19 (part-column banks d) left ((2 + banks) + n) r) due bad;
     }

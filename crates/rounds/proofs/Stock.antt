@@ -40,21 +40,24 @@ stock-table = record {
   panels = panels;
   dwells = dwells;
   gaps = gaps;
-  unused = unused
+  unused = unused;
 }
   where
     panels : (i : ℕ) → i < 2 → bank-at banks i .panel ≤ 3
     panels zero h = lit≤ tt
     panels (suc zero) h = lit≤ tt
     panels (suc (suc i)) h = absurd (not-suc-le-zero (le-of-suc-le-suc (le-of-suc-le-suc h)))
+
     dwells : (i : ℕ) → i < 2 → (1 ≤ bank-at banks i .dwell) × (bank-at banks i .dwell ≤ 1000)
     dwells zero h = (lit≤ tt, lit≤ tt)
     dwells (suc zero) h = (lit≤ tt, lit≤ tt)
     dwells (suc (suc i)) h = absurd (not-suc-le-zero (le-of-suc-le-suc (le-of-suc-le-suc h)))
+
     gaps : (i : ℕ) → i < 2 → (1 ≤ bank-at banks i .gap) × (bank-at banks i .gap ≤ 65533)
     gaps zero h = (lit≤ tt, lit≤ tt)
     gaps (suc zero) h = (lit≤ tt, lit≤ tt)
     gaps (suc (suc i)) h = absurd (not-suc-le-zero (le-of-suc-le-suc (le-of-suc-le-suc h)))
+
     unused : (i : ℕ) → 2 ≤ i → (bank-at banks i .panel ≡ 0) × (bank-at banks i .dwell ≡ 0) × (bank-at banks i .gap ≡ 0)
     unused zero h = absurd (not-suc-le-zero h)
     unused (suc zero) h = absurd (not-suc-le-zero (le-of-suc-le-suc h))

@@ -59,7 +59,12 @@ fn put_banks(digits: &[u8], into: &mut [u8])
 }
 
 // One line of the list: as many banks as `into` has places.
-fn read_part<'a>(rest: &'a [u8], line: u32, banks: u8, into: &mut [u8]) -> Result<&'a [u8], FileFault>
+fn read_part<'a>(
+    rest: &'a [u8],
+    line: u32,
+    banks: u8,
+    into: &mut [u8],
+) -> Result<&'a [u8], FileFault>
     requires size { ⌜ length (now rest) ≤ 65536 ⌝ }
     requires few { ⌜ length (now into) ≤ 16 ⌝ }
     ensures { λ r. ⌜ Cases r (λ after. OnlyBanks banks (now (into .exit)) × (now (rest .entry) ≡ part-line (now (into .exit)) ++ now after)) (λ e. BadLine 19 (part-column banks (length (now (into .entry)))) (now (rest .entry)) line (file-told e)) ⌝ }
@@ -86,7 +91,11 @@ fn part_end(dwells: usize, at: usize) -> usize
 }
 
 // All lines of the list: `into` has a place for each dwell that is announced.
-pub(crate) fn read_parts<'a>(rest: &'a [u8], banks: u8, into: &mut [u8]) -> Result<&'a [u8], FileFault>
+pub(crate) fn read_parts<'a>(
+    rest: &'a [u8],
+    banks: u8,
+    into: &mut [u8],
+) -> Result<&'a [u8], FileFault>
     requires size { ⌜ length (now rest) ≤ 65536 ⌝ }
     requires few { ⌜ length (now into) ≤ most-dwells ⌝ }
     ensures { λ r. ⌜ Cases r (λ after. PartsRead banks (now (rest .entry)) (now (into .exit)) (now after)) (λ e. PartsFault banks (length (now (into .entry))) (now (rest .entry)) (file-told e)) ⌝ }

@@ -38,13 +38,22 @@ fn unlawful_at(line: u32, unfit: Unfit) -> FileFault
     ensures { λ r. ⌜ ToldAt line unfit r ⌝ }
 {
     match unfit {
-        Unfit::Unlawful { lap, position } => FileFault::Unlawful { line, lap, position },
+        Unfit::Unlawful { lap, position } => FileFault::Unlawful {
+            line,
+            lap,
+            position,
+        },
         Unfit::NoMove { .. } => unreachable(),
     }
 }
 
 // All lines are good: checks the list, and that nothing comes behind them, and puts the round into the record.
-fn finish(table: BankTable, list: &[u8], rest: &[u8], target: &mut RoundRecord) -> Result<(), FileFault>
+fn finish(
+    table: BankTable,
+    list: &[u8],
+    rest: &[u8],
+    target: &mut RoundRecord,
+) -> Result<(), FileFault>
     requires few { ⌜ length (now list) ≤ most-dwells ⌝ }
     requires moves { ⌜ OnlyMoves (table .count) (now list) ⌝ }
     ensures { λ r. ⌜ Cases r (λ _. Ended table (now (list .entry)) (now (rest .entry)) × Holds (now (target .exit)) table (now (list .entry))) (λ e. EndFault table (now (list .entry)) (now (rest .entry)) (file-told e) × (now (target .exit) ≡ now (target .entry))) ⌝ }
@@ -92,5 +101,10 @@ pub fn read_round(bytes: &[u8], target: &mut RoundRecord) -> Result<(), FileFaul
     let dwells = stored.dwells as usize;
     let lines = &bytes[stored.end..];
     let list = read_list(lines, stored.table.count(), dwells)?;
-    finish(stored.table, &list.banks[0..dwells], &lines[list.end..], target)
+    finish(
+        stored.table,
+        &list.banks[0..dwells],
+        &lines[list.end..],
+        target,
+    )
 }

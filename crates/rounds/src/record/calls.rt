@@ -39,7 +39,11 @@ impl RoundRecord {
         ensures list { λ r. ⌜ list-of r ≡ 0 ∷ 1 ∷ [] ⌝ }
     {
         let banks = padded(&[0, 1]);
-        RoundRecord { table: BankTable::stock(), dwells: 2, banks }
+        RoundRecord {
+            table: BankTable::stock(),
+            dwells: 2,
+            banks,
+        }
     }
 
     // The table of the record.
@@ -63,7 +67,11 @@ impl RoundRecord {
         ensures { λ _. ⌜ Holds (now (self .exit)) table (now (list .entry)) ⌝ }
     {
         let banks = padded(list);
-        *self = RoundRecord { table, dwells: list.len(), banks };
+        *self = RoundRecord {
+            table,
+            dwells: list.len(),
+            banks,
+        };
     }
 
     // Takes this table and this list where they make a record; a refusal leaves the record as it was.
@@ -72,7 +80,9 @@ impl RoundRecord {
         ensures exact { λ r. ⌜ Decides (isOk r) (MakesRecord table (now (list .entry))) ⌝ }
     {
         if list.len() > MOST_DWELLS {
-            return Err(Unfit::NoMove { position: MOST_DWELLS });
+            return Err(Unfit::NoMove {
+                position: MOST_DWELLS,
+            });
         }
         let reader = PanelledReader::new(table);
         check_list(&reader, list)?;

@@ -49,5 +49,5 @@ returns c =
       gap-told = ap (λ (k : Bank). k .gap) bank;
       dwells-told = c .dwells-on .ensures ∙ ap (countBy (λ x. eqb x b)) (e .value);
       longest-told = told .0;
-      slack-told = told .1
+      slack-told = told .1;
     }

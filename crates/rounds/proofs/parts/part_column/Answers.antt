@@ -27,7 +27,7 @@ bad-bank-requires c κs =
     record {
       digits = subst (λ (ds : List ℕ). AllDigits ds) (sym same) (digits-drop body 2 (c .pre .digits));
       size = ap length same ∙ length-drop 2 body ∙ (omega (arith, is, c .pre .size, c .if-number-at-due .left));
-      few = c .pre .few
+      few = c .pre .few;
     }
 
 pub returns : need.returns

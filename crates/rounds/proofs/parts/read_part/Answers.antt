@@ -54,7 +54,7 @@ put-banks-requires c κs =
     let same = take-rest body 2 in
     record {
       digits = subst (λ (ds : List ℕ). AllDigits ds) (sym same) (digits-drop body 2 (f .digits));
-      size = ap length same ∙ length-drop 2 body ∙ (omega (arith, f .size, g .0))
+      size = ap length same ∙ length-drop 2 body ∙ (omega (arith, f .size, g .0));
     }
 
 pub returns : need.returns

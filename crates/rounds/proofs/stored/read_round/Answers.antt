@@ -32,7 +32,7 @@ decided bytes (Err e) f = refuted bytes (file-told e) f
 only-round : (bytes : List ℕ) (t : BankTable) (xs : List ℕ) (r : RoundRecord) → IsStored bytes t xs → Holds r t xs → OnlyRound bytes r
 only-round bytes t xs r s h = record {
   one = λ u ys k. let same = one-round bytes t xs s u ys k in record { table = h .table ∙ same .0; list = h .list ∙ same .1 };
-  faultless = stored-no-fault bytes t xs s
+  faultless = stored-no-fault bytes t xs s;
 }
 
 only-fault : (bytes : List ℕ) (r : Refusal) → FirstFault bytes r → OnlyFault bytes r
@@ -64,12 +64,12 @@ returns c =
     let g = gathered bytes (s .table) (s .dwells) (s .end) _ (c .count .result) (c .in-Continue-list .list .banks) (c .in-Continue-list .list .end) (c .in-Continue-stored .ensures tt .1) (c .count .ensures) refl (c .in-Continue-list .ensures tt) in
     record {
       reply = cases-weaker (c .finish .result) (c .finish .ensures)
-        (λ x h. stored-held bytes (s .table) _ _ (stored-whole bytes (s .table) _ _ (g .lines) (h .0)) (h .1))
-        (λ e h. (at-end (s .table) _ _ (g .lines) (h .0), h .1));
+          (λ x h. stored-held bytes (s .table) _ _ (stored-whole bytes (s .table) _ _ (g .lines) (h .0)) (h .1))
+          (λ e h. (at-end (s .table) _ _ (g .lines) (h .0), h .1));
       exact = decided bytes (c .finish .result) (cases-weaker (c .finish .result) (c .finish .ensures)
-        (λ x h. record { table = s .table; list = _; stored = stored-whole bytes (s .table) _ _ (g .lines) (h .0) })
-        (λ e h. at-end (s .table) _ _ (g .lines) (h .0)));
+          (λ x h. record { table = s .table; list = _; stored = stored-whole bytes (s .table) _ _ (g .lines) (h .0) })
+          (λ e h. at-end (s .table) _ _ (g .lines) (h .0)));
       only = cases-weaker (c .finish .result) (c .finish .ensures)
-        (λ x h. only-round bytes (s .table) _ _ (stored-whole bytes (s .table) _ _ (g .lines) (h .0)) (h .1))
-        (λ e h. only-fault bytes _ (at-end (s .table) _ _ (g .lines) (h .0)))
+          (λ x h. only-round bytes (s .table) _ _ (stored-whole bytes (s .table) _ _ (g .lines) (h .0)) (h .1))
+          (λ e h. only-fault bytes _ (at-end (s .table) _ _ (g .lines) (h .0)));
     }

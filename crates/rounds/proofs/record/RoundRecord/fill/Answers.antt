@@ -18,5 +18,5 @@ returns-in-Break-check-list c =
     let bad = subst (λ (t : BankTable). ListFault (panelled t) (c .args .list .now) (told (w .field-0 .0))) same (w .ensures tt .reply) in
     rw (p .1, p .2) (record {
       reply = (no-round (c .if-list-gt-MOST-DWELLS .left) bad, refl);
-      exact = (λ e. absurd (false≢true e), λ m. absurd (false≢true (w .ensures tt .exact .1 (subst (λ (t : BankTable). LawfulForEver (panelled t) (c .args .list .now)) (sym same) (m .kept)))))
+      exact = (λ e. absurd (false≢true e), λ m. absurd (false≢true (w .ensures tt .exact .1 (subst (λ (t : BankTable). LawfulForEver (panelled t) (c .args .list .now)) (sym same) (m .kept)))));
     })

@@ -11,8 +11,13 @@ pub ghost-result : need.ghost-result
 ghost-result c =
     let t = c .stock .result in
     let e = c .stock .ensures in
-    let kept = stock-kept t (e .count) (e .settle) (e .banks) .endless in
-    ( lit≤ tt
-    , ( lit≤ tt
-      , ( subst (λ (xs : List ℕ). Endless (panelled t) rest-state (again xs)) (sym (c .padded-banks .ensures)) kept
-        , tt ) ) )
+    let kept = stock-kept t (e .count) (e .settle) (e .banks) .endless in (
+      lit≤ tt,
+      (
+        lit≤ tt,
+        (
+          subst (λ (xs : List ℕ). Endless (panelled t) rest-state (again xs)) (sym (c .padded-banks .ensures)) kept,
+          tt,
+        ),
+      ),
+    )
