@@ -1,0 +1,3 @@
+// Tests of stored rounds and of lists of banks, case by case.
+#[cfg(test)]
+mod tests;
