@@ -1,0 +1,4 @@
+pub mod Subsets
+pub mod Schedules
+pub mod Lists
+pub mod Chosen
