@@ -1,9 +1,9 @@
 -- Orders that repeat after so many dwells: the clock of a lap is that of the lap before, and so many ticks more.
-use mathlib.Core.Path.{_≡_, refl, sym, ap, ap₂, subst, _∙_}
+use mathlib.Core.Path.{_≡_, sym, ap, ap₂, _∙_}
 use mathlib.Core.Bool.{cond}
 use mathlib.Core.List.{List}
-use Prim.Native.Nat.{ℕ, zero, suc, _+_, _-_, _*_, _%_, _<_, _≤_}
-use native.Mathlib.Nat.{add-mod-right, add-mul, add-zero}
+use Prim.Native.Nat.{ℕ, zero, suc, _+_, _-_, _*_, _<_, _≤_}
+use native.Mathlib.Nat.{add-mod-right, add-mul}
 use native.Mathlib.Numerals.{add-one}
 use native.Mathlib.Omega.{arith}
 use lib.Dec.{eqb}
@@ -11,30 +11,12 @@ use lib.ListN.{length, getD}
 use Rattle.rig.specs.Orders.{Order, again}
 use Rattle.banks.specs.declared.table.BankTable.{BankTable}
 use Rattle.banks.specs.Table.{dwell, panel}
-use Rattle.banks.specs.Ticks.{settling-before, clock, begins, ends, NextDwell, Waits, LapTicks}
+use Rattle.banks.specs.Ticks.{settling-before, clock, begins, ends, NextDwell, LapTicks}
+use Rattle.banks.proofs.Clocks.{clock-next}
 
 -- the repetition repeats
 pub again-lap : (xs : List ℕ) (n : ℕ) → again xs (n + length xs) ≡ again xs n
 again-lap xs n = ap (λ (i : ℕ). getD xs i 0) (add-mod-right n (length xs))
-
-module _ (t : BankTable) (o : Order) where
-  -- the clock after one more dwell
-  pub clock-next : (n : ℕ) → clock t o (n + 1) ≡ ends t o n
-  unfolding clock
-  clock-next n = ap (clock t o) (add-one n)
-
-  -- the clock never runs back
-  clock-later : (p d : ℕ) → ends t o p ≤ clock t o (p + 1 + d)
-  clock-later p zero = omega (arith, clock-next p, ap (clock t o) (add-zero (p + 1)))
-  clock-later p (suc d) =
-      let e : p + 1 + suc d ≡ (p + 1 + d) + 1 = omega arith in
-      omega (arith, clock-later p d, clock-next (p + 1 + d), ap (clock t o) e)
-
-  -- so a later dwell begins no earlier than an earlier one ends, and each wait is so many ticks
-  pub wait-some : (p q : ℕ) → p < q → (w : ℕ) × Waits t o p q w
-  wait-some p q l =
-      let e : q ≡ p + 1 + (q - (p + 1)) = omega arith in
-      (begins t o q - ends t o p, omega (arith, clock-later p (q - (p + 1)), ap (clock t o) e))
 
 module _ (t : BankTable) (o : Order) (len : ℕ) (same : (n : ℕ) → o (n + len) ≡ o n) where
   pub settling-lap : (n : ℕ) → settling-before t o (suc n + len) ≡ settling-before t o (suc n)

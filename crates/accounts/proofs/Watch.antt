@@ -9,7 +9,8 @@ use Rattle.rig.specs.Orders.{Order}
 use Rattle.banks.specs.declared.table.BankTable.{BankTable}
 use Rattle.banks.specs.Table.{dwell}
 use Rattle.banks.specs.Ticks.{settling-before, clock, begins, ends, NextDwell, Waits, LongestWait}
-use Rattle.accounts.proofs.Repeats.{clock-next, wait-lap, next-back}
+use Rattle.banks.proofs.Clocks.{clock-next}
+use Rattle.accounts.proofs.Repeats.{wait-lap, next-back}
 
 -- some wait of bank b is w ticks long
 pub record Waited (t : BankTable) (o : Order) (b w : ℕ) : Type 0 where

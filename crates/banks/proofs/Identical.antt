@@ -11,6 +11,7 @@ use Rattle.std.specs.declared.option.Option.{Option}
 use Rattle.banks.specs.declared.table.Bank.{Bank}
 use Rattle.banks.specs.declared.table.BankTable.{BankTable}
 use Rattle.banks.specs.declared.reader.ReaderState.{ReaderState}
+use Rattle.banks.specs.declared.plain.PlainState.{PlainState}
 use Rattle.banks.specs.Limits.{bank-at, fewest-banks, most-banks, most-settle, most-panel, most-dwell, most-gap}
 
 pub same-state : (a b : ReaderState) → a .ages ≡ b .ages → a .last ≡ b .last → a ≡ b
@@ -38,3 +39,6 @@ state-decides a b r d e = (λ h. same-state a b (d .0 h) e, λ h. d .1 (ap (λ s
 
 pub table-decides : (a b : BankTable) (r : Bool) → Decides r (a .banks ≡ b .banks) → a .count ≡ b .count → a .settle ≡ b .settle → Decides r (a ≡ b)
 table-decides a b r d p q = (λ h. same-table a b p q (d .0 h), λ h. d .1 (ap (λ t. t .banks) h))
+
+pub plain-state-decides : (a b : PlainState) (r : Bool) → Decides r (a .ages ≡ b .ages) → Decides r (a ≡ b)
+plain-state-decides a b r d = (λ h. let same = d .0 h in λ i. record { ages = same i }, λ h. d .1 (ap (λ s. s .ages) h))

@@ -4,5 +4,9 @@ pub mod Panels
 pub mod Identical
 pub mod Meanings
 pub mod RigLaws
+pub mod Clocks
+pub mod Served
+pub mod PlainLaws
+pub mod Unsettled
 pub mod OneTable
 pub mod TableLines

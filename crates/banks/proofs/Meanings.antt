@@ -19,7 +19,7 @@ use Rattle.banks.proofs.AgeLaws.{ages-proper-decides, follows-aged, in-time-de
 use Rattle.banks.proofs.Panels.{panel-covers-decides, panel-proper-decides, settled-none, settled-other, settled-same}
 
 -- a second test that decides only where the first passes
-and-then-decides : {P Q : Type 0} (x y : Bool) → Decides x P → (P → Decides y Q) → Decides (x && y) (P × Q)
+pub and-then-decides : {P Q : Type 0} (x y : Bool) → Decides x P → (P → Decides y Q) → Decides (x && y) (P × Q)
 and-then-decides true y d e = (λ h. (d .0 refl, e (d .0 refl) .0 h), λ h. e (h .0) .1 (h .1))
 and-then-decides false y d e = (λ h. absurd (both-ways false refl h), λ h. d .1 (h .0))
 

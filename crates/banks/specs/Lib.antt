@@ -2,6 +2,8 @@ pub mod Limits
 pub mod Table
 pub mod Ages
 pub mod Panelled
+pub mod Plain
 pub mod Rules
 pub mod Stored
 pub mod Ticks
+pub mod Regular

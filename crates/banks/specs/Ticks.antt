@@ -59,6 +59,11 @@ pub record InTime (t : BankTable) (o : Order) (b : ℕ) : Type 0 where
   pub soon : begins t o start ≤ gap t b
   pub next : (p : ℕ) → o p ≡ b → (q : ℕ) × NextDwell o b p q × (begins t o q ≤ ends t o p + gap t b)
 
+-- The order is regular for the table: every dwell is on a bank of the table, and every bank is served in time.
+pub record Regular (t : BankTable) (o : Order) : Type 0 where
+  pub on-bank : (n : ℕ) → o n < t .count
+  pub served : (b : ℕ) → b < t .count → InTime t o b
+
 -- Each lap of the list but the first takes n ticks, from the end of the lap before to its own end. (The first lacks the settling before its first dwell.)
 abbrev pub LapTicks : BankTable → List ℕ → ℕ → Type 0
 LapTicks t xs n = (k : ℕ) → clock t (again xs) ((k + 2) * length xs) ≡ clock t (again xs) ((k + 1) * length xs) + n

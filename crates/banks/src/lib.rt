@@ -1,9 +1,15 @@
-// Bank tables, and the panelled reader as a rig.
+// Bank tables, and the plain and the panelled reader as rigs.
 mod ages;
+mod plain;
 mod reader;
 mod stored;
 mod table;
+mod ticks;
 
+pub use plain::PlainReader;
+pub use plain::PlainRig;
+pub use plain::PlainState;
+pub use plain::PlainStateEquality;
 pub use reader::PanelledReader;
 pub use reader::PanelledRig;
 pub use reader::ReaderState;
@@ -22,3 +28,4 @@ pub use table::MOST_DWELL;
 pub use table::MOST_GAP;
 pub use table::MOST_PANEL;
 pub use table::MOST_SETTLE;
+pub use ticks::lawful_is_regular;

@@ -18,7 +18,7 @@ use crate::table::MOST_PANEL;
 use rig::Rig;
 
 // The greatest sum of ages of a proper state, and one more for its last panel.
-const MOST_STALENESS: u32 = MOST_BANKS as u32 * MOST_GAP as u32 + 1;
+pub(crate) const MOST_STALENESS: u32 = MOST_BANKS as u32 * MOST_GAP as u32 + 1;
 
 // The age of every bank, and the panel of the last dwell, if there was one.
 #[derive(Clone, Copy, Eq, Debug)]

@@ -1,3 +1,4 @@
+pub mod Gaps
 pub mod Stock
 pub mod PartLines
 pub mod Ends

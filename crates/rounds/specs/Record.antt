@@ -5,10 +5,11 @@ use Prim.Native.Nat.{ℕ, _<_, _≤_}
 use lib.ListN.{length, take}
 use Rattle.refusals.specs.declared.Refusal.{Refusal}
 use Rattle.refusals.specs.Numbers.{no-move}
-use Rattle.rig.specs.Orders.{LawfulForEver}
+use Rattle.rig.specs.Orders.{LawfulForEver, again}
 use Rattle.rig.specs.Checks.{ListFault}
 use Rattle.banks.specs.declared.table.BankTable.{BankTable}
 use Rattle.banks.specs.Panelled.{panelled}
+use Rattle.banks.specs.Ticks.{Regular}
 use Rattle.rounds.specs.declared.record.RoundRecord.{RoundRecord}
 use Rattle.banks.specs.Stored.{most-dwells}
 
@@ -25,6 +26,13 @@ pub record Holds (r : RoundRecord) (t : BankTable) (xs : List ℕ) : Type 0 wher
 pub record MakesRecord (t : BankTable) (xs : List ℕ) : Type 0 where
   pub few : length xs ≤ most-dwells
   pub kept : LawfulForEver (panelled t) xs
+
+-- The list has 1 to 4,096 dwells, and its endless repetition is regular in ticks: every dwell is on a bank of the table,
+-- and no bank ever waits longer than its gap.
+pub record KeepsGaps (t : BankTable) (xs : List ℕ) : Type 0 where
+  pub some-dwell : 0 < length xs
+  pub few : length xs ≤ most-dwells
+  pub regular : Regular t (again xs)
 
 -- The refusal tells why they do not: the list is too long, and the position is the first that has no place;
 -- or it is short enough, and the checker refuses it so on the panelled reader of the table.

@@ -15,7 +15,7 @@ use Rattle.banks.specs.declared.table.BankTable.{BankTable}
 use Rattle.banks.specs.Panelled.{panelled}
 use Rattle.banks.specs.Stored.{most-bytes, most-dwells, head-line, bank-lines, TableRead, TableFault}
 use Rattle.rounds.specs.declared.record.RoundRecord.{RoundRecord}
-use Rattle.rounds.specs.Record.{Holds}
+use Rattle.rounds.specs.Record.{Holds, KeepsGaps}
 use Rattle.rounds.specs.Parts.{part-lines, parts-of, PartsFault}
 
 -- THE TEXT of a table and a list
@@ -37,6 +37,13 @@ pub record SomeStored (bytes : List ℕ) : Type 0 where
   pub table : BankTable
   pub list : List ℕ
   pub stored : IsStored bytes table list
+
+-- The bytes are the text of some table and list that keeps every gap of the table, in ticks.
+pub record SomeRegular (bytes : List ℕ) : Type 0 where
+  pub table : BankTable
+  pub list : List ℕ
+  pub keeps : KeepsGaps table list
+  pub text : bytes ≡ round-text table list
 
 -- The reply of the checker tells of an unlawful move.
 abbrev pub HasUnlawful : Unfit → Type 0

@@ -9,7 +9,7 @@ ghost use Rattle.frames.specs.Faults.{file-told};
 ghost use Rattle.banks.specs.Stored.{most-bytes, most-dwells};
 ghost use Rattle.rounds.specs.Parts.{ListRead, PartsFault};
 ghost use Rattle.rounds.specs.Record.{Holds, list-of};
-ghost use Rattle.rounds.specs.Stored.{IsStored, SomeStored, OnlyRound, FirstFault, OnlyFault, last-line, HasUnlawful, ToldAt, Ended, EndFault};
+ghost use Rattle.rounds.specs.Stored.{IsStored, SomeStored, SomeRegular, OnlyRound, FirstFault, OnlyFault, last-line, HasUnlawful, ToldAt, Ended, EndFault};
 use crate::parts::PART_SIZE;
 use crate::parts::read_parts;
 use crate::record::RoundRecord;
@@ -95,6 +95,7 @@ fn read_list(bytes: &[u8], banks: u8, dwells: usize) -> Result<StoredList, FileF
 pub fn read_round(bytes: &[u8], target: &mut RoundRecord) -> Result<(), FileFault>
     ensures reply { λ r. ⌜ Cases r (λ _. IsStored (now (bytes .entry)) (now (target .exit) .table) (list-of (now (target .exit)))) (λ e. FirstFault (now (bytes .entry)) (file-told e) × (now (target .exit) ≡ now (target .entry))) ⌝ }
     ensures exact { λ r. ⌜ Decides (isOk r) (SomeStored (now (bytes .entry))) ⌝ }
+    ensures regular { λ r. ⌜ Decides (isOk r) (SomeRegular (now (bytes .entry))) ⌝ }
     ensures only { λ r. ⌜ Cases r (λ _. OnlyRound (now (bytes .entry)) (now (target .exit))) (λ e. OnlyFault (now (bytes .entry)) (file-told e)) ⌝ }
 {
     let stored = read_table(bytes)?;

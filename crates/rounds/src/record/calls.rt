@@ -10,7 +10,7 @@ ghost use Rattle.rig.specs.Orders.{LawfulForEver};
 ghost use Rattle.rig.specs.Checks.{told};
 ghost use Rattle.banks.specs.Panelled.{panelled};
 ghost use Rattle.banks.specs.Stored.{most-dwells};
-ghost use Rattle.rounds.specs.Record.{list-of, Holds, MakesRecord, RecordFault};
+ghost use Rattle.rounds.specs.Record.{list-of, Holds, KeepsGaps, MakesRecord, RecordFault};
 use crate::record::RoundRecord;
 use banks::BankTable;
 use banks::MOST_DWELLS;
@@ -78,6 +78,7 @@ impl RoundRecord {
     pub fn fill(&mut self, table: BankTable, list: &[u8]) -> Result<(), Unfit>
         ensures reply { λ r. ⌜ Cases r (λ _. Holds (now (self .exit)) table (now (list .entry))) (λ e. RecordFault table (now (list .entry)) (told e) × (now (self .exit) ≡ now (self .entry))) ⌝ }
         ensures exact { λ r. ⌜ Decides (isOk r) (MakesRecord table (now (list .entry))) ⌝ }
+        ensures regular { λ r. ⌜ Decides (isOk r) (KeepsGaps table (now (list .entry))) ⌝ }
     {
         if list.len() > MOST_DWELLS {
             return Err(Unfit::NoMove {

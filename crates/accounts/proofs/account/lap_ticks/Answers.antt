@@ -4,7 +4,8 @@ use native.Mathlib.Omega.{arith}
 use lib.ListN.{length}
 use Rattle.rig.specs.Orders.{again}
 use Rattle.banks.specs.Ticks.{clock}
-use Rattle.accounts.proofs.Repeats.{clock-next, lap-ticks}
+use Rattle.banks.proofs.Clocks.{clock-next}
+use Rattle.accounts.proofs.Repeats.{lap-ticks}
 use Rattle.accounts.proofs.account.lap_ticks.Needs as need
 
 pub loop-n-again : need.loop-n-again

@@ -16,6 +16,7 @@ use Rattle.rounds.specs.declared.record.RoundRecord.{RoundRecord}
 use Rattle.rounds.specs.Record.{Holds}
 use Rattle.rounds.specs.Stored.{IsStored, SomeStored, OnlyRound, FirstFault, OnlyFault}
 use Rattle.rounds.specs.Stored.FirstFault.{in-table, at-end}
+use Rattle.rounds.proofs.Gaps.{decides-regular}
 use Rattle.rounds.proofs.Ends.{gathered, list-fault, stored-whole, stored-held}
 use Rattle.rounds.proofs.OneRound.{stored-no-fault, one-round, one-first-fault}
 use Rattle.rounds.proofs.stored.read_round.Needs as need
@@ -42,14 +43,14 @@ pub returns-in-Break-stored : need.returns-in-Break-stored
 returns-in-Break-stored c =
     let p = err-from-errBy (c .from-residual .result) (c .from-residual .ensures .1) in
     let fault = in-table (c .in-Break-stored .ensures tt) in
-    rw (p .1, p .2) (record { reply = (fault, refl); exact = refuted (c .args .bytes .now) _ fault; only = only-fault (c .args .bytes .now) _ fault })
+    rw (p .1, p .2) (record { reply = (fault, refl); exact = refuted (c .args .bytes .now) _ fault; regular = decides-regular (c .args .bytes .now) false (refuted (c .args .bytes .now) _ fault); only = only-fault (c .args .bytes .now) _ fault })
 
 pub returns-in-Break-list : need.returns-in-Break-list
 returns-in-Break-list c =
     let p = err-from-errBy (c .from-residual-in-Break-list .result) (c .from-residual-in-Break-list .ensures .1) in
     let s = c .in-Continue-stored .stored in
     let fault = list-fault (c .args .bytes .now) (s .table) (s .dwells) (s .end) _ (c .count .result) _ (c .in-Continue-stored .ensures tt .1) (c .count .ensures) refl (c .in-Break-list .ensures tt) in
-    rw (p .1, p .2) (record { reply = (fault, refl); exact = refuted (c .args .bytes .now) _ fault; only = only-fault (c .args .bytes .now) _ fault })
+    rw (p .1, p .2) (record { reply = (fault, refl); exact = refuted (c .args .bytes .now) _ fault; regular = decides-regular (c .args .bytes .now) false (refuted (c .args .bytes .now) _ fault); only = only-fault (c .args .bytes .now) _ fault })
 
 pub finish-requires : need.finish-requires
 finish-requires c κs =
@@ -62,13 +63,15 @@ returns c =
     let s = c .in-Continue-stored .stored in
     let bytes = c .args .bytes .now in
     let g = gathered bytes (s .table) (s .dwells) (s .end) _ (c .count .result) (c .in-Continue-list .list .banks) (c .in-Continue-list .list .end) (c .in-Continue-stored .ensures tt .1) (c .count .ensures) refl (c .in-Continue-list .ensures tt) in
+    let exact : Decides (isOk (c .finish .result)) (SomeStored bytes) = decided bytes (c .finish .result) (cases-weaker (c .finish .result) (c .finish .ensures)
+    (λ x h. record { table = s .table; list = _; stored = stored-whole bytes (s .table) _ _ (g .lines) (h .0) })
+    (λ e h. at-end (s .table) _ _ (g .lines) (h .0))) in
     record {
       reply = cases-weaker (c .finish .result) (c .finish .ensures)
           (λ x h. stored-held bytes (s .table) _ _ (stored-whole bytes (s .table) _ _ (g .lines) (h .0)) (h .1))
           (λ e h. (at-end (s .table) _ _ (g .lines) (h .0), h .1));
-      exact = decided bytes (c .finish .result) (cases-weaker (c .finish .result) (c .finish .ensures)
-          (λ x h. record { table = s .table; list = _; stored = stored-whole bytes (s .table) _ _ (g .lines) (h .0) })
-          (λ e h. at-end (s .table) _ _ (g .lines) (h .0)));
+      exact = exact;
+      regular = decides-regular bytes (isOk (c .finish .result)) exact;
       only = cases-weaker (c .finish .result) (c .finish .ensures)
           (λ x h. only-round bytes (s .table) _ _ (stored-whole bytes (s .table) _ _ (g .lines) (h .0)) (h .1))
           (λ e h. only-fault bytes _ (at-end (s .table) _ _ (g .lines) (h .0)));
