@@ -34,7 +34,7 @@ pub record KeepsGaps (t : BankTable) (xs : List ℕ) : Type 0 where
   pub few : length xs ≤ most-dwells
   pub regular : Regular t (again xs)
 
--- The refusal tells why they do not: the list is too long, and the position is the first that has no place;
+-- The refusal tells why a table and a list make no record: the list is too long, and the position is the first that has no place;
 -- or it is short enough, and the checker refuses it so on the panelled reader of the table.
 pub data RecordFault (t : BankTable) (xs : List ℕ) (r : Refusal) : Type 0 where
   too-long : most-dwells < length xs → r ≡ no-move most-dwells → RecordFault t xs r

@@ -18,7 +18,7 @@ use Rattle.rounds.specs.declared.record.RoundRecord.{RoundRecord}
 use Rattle.rounds.specs.Record.{Holds, KeepsGaps}
 use Rattle.rounds.specs.Parts.{part-lines, parts-of, PartsFault}
 
--- THE TEXT of a table and a list
+-- the text of a table and a list
 abbrev pub round-text : BankTable → List ℕ → List ℕ
 round-text t xs = head-line (t .count) (t .settle) (length xs) ++ (bank-lines (t .banks) (t .count) ++ part-lines xs (parts-of (length xs)))
 
