@@ -1,4 +1,6 @@
 // The account of a round, in ticks, and the account of a feeder sheet.
+#![tactic(auto)]
+
 mod account;
 mod needs;
 mod report;

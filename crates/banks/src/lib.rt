@@ -1,4 +1,6 @@
 // Bank tables, those of sheets, and the lines of a stored round that list one.
+#![tactic(auto)]
+
 mod listed;
 mod stored;
 mod table;

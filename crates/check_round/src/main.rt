@@ -1,4 +1,6 @@
 // Reads a stored round from standard input, and prints an account of it or why it is refused.
+#![tactic(auto)]
+
 ghost use Rattle.std.specs.Prelude.{◌≤◌, length, IfOk};
 
 use accounts::Account;

@@ -1,5 +1,7 @@
 // Answers many cases, one behind the other on standard input, for the comparison with the reference in another language.
 // Each case is a letter for its kind, a space, the number of its bytes in decimal digits, a byte 0A, the bytes, and a byte 0A.
+#![tactic(auto)]
+
 ghost use Rattle.std.specs.Prelude.{◌≤◌, length};
 
 use accounts::{Account, SheetAccount};

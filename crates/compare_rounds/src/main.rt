@@ -1,5 +1,7 @@
 // Answers many stored rounds, one behind the other on standard input: for each the number of its bytes in decimal digits,
 // a byte 0A, the bytes, and a byte 0A. Each answer is printed as `check_round` prints it.
+#![tactic(auto)]
+
 ghost use Rattle.std.specs.Prelude.{◌≤◌, length};
 
 use accounts::Account;

@@ -1,4 +1,6 @@
 // Deadlines of the banks, states that no order of dwells can save, and the choice of the bank that is due first.
+#![tactic(auto)]
+
 mod choice;
 mod deadline;
 

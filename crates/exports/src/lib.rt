@@ -1,4 +1,6 @@
 // Calls for programs in other languages: a file is handed over as bytes, and the number of its refusal comes back, 0 where it is read.
+#![tactic(auto)]
+
 ghost use Rattle.std.specs.Prelude.{◌≡◌};
 ghost use Rattle.refusals.specs.declared.Refusal.{Refusal};
 ghost use Rattle.sheets.specs.SheetText.{FirstFault as SheetFault, SomeSheet};

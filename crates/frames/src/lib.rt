@@ -1,4 +1,6 @@
 // The layers that files are read through: digits, lines and frames, and the faults of each.
+#![tactic(auto)]
+
 mod digits;
 mod faults;
 mod fields;

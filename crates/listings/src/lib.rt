@@ -1,4 +1,6 @@
 // Listings: the frames of verdicts, refusals and stored rounds, written into a lent buffer.
+#![tactic(auto)]
+
 mod answers;
 mod fields;
 mod frame;

@@ -1,5 +1,7 @@
 // Reads a feeder sheet from standard input, and prints for people what each bank needs, the verdict, and the account of the round;
 // or why the sheet is refused.
+#![tactic(auto)]
+
 use accounts::{Account, SheetAccount};
 use planner::answer_sheet;
 use rig::Verdict;

@@ -1,4 +1,6 @@
 // Reads a feeder sheet from standard input, and prints the verdict on it with its round, or why the sheet is refused.
+#![tactic(auto)]
+
 use listings::TooShort;
 use planner::plan_text;
 use std::io;

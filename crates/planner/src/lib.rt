@@ -1,4 +1,6 @@
 // The planner: from a feeder sheet to a round that runs.
+#![tactic(auto)]
+
 mod answer;
 mod planned;
 mod text;

@@ -1,4 +1,6 @@
 // The plain and the panelled reader of a bank table, as rigs.
+#![tactic(auto)]
+
 mod ages;
 mod panelled;
 mod plain;

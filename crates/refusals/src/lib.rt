@@ -1,4 +1,6 @@
 // What a refusal tells: a number for the kind of fault, and the values that say where it is.
+#![tactic(auto)]
+
 ghost use Rattle.std.specs.Prelude.{◌≡◌};
 ghost use Rattle.refusals.specs.Numbers.{at_place, at_move, of_length};
 

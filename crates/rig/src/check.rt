@@ -45,7 +45,7 @@ fn first_no_move(moves: u8, list: &[u8]) -> Option<usize>
 
 // One lap from a state: the state after it, or the position of the first unlawful move.
 fn run_lap<R: Rig>(rig: &R, from: R::State, list: &[u8]) -> Result<R::State, usize>
-    ensures { MatchResult result (λ s. LapRan (means rig.now) from list.now s) (λ p. LapStopped (means rig.now) from list.now p) }
+    ensures { MatchResult result (λ s. LapRan (R.means rig.now) from list.now s) (λ p. LapStopped (R.means rig.now) from list.now p) }
 {
     let mut s = from;
     for (k, j) in list.iter().enumerate() {
@@ -60,8 +60,8 @@ fn run_lap<R: Rig>(rig: &R, from: R::State, list: &[u8]) -> Result<R::State, usi
 // Goes lap by lap from rest. Accepts after the first lap whose last state covers its first, and tells that lap;
 // stops at the first number that is no move, or else at the first unlawful move.
 pub fn check_list<R: Rig>(rig: &R, list: &[u8]) -> Result<u32, Unfit>
-    ensures reply { Checked (means rig.now) list.now result }
-    ensures exact { Decides (is_ok result) (LawfulForEver (means rig.now) list.now) }
+    ensures reply { Checked (R.means rig.now) list.now result }
+    ensures exact { Decides (is_ok result) (LawfulForEver (R.means rig.now) list.now) }
 {
     if let Some(position) = first_no_move(rig.moves(), list) {
         return Err(Unfit::NoMove { position });

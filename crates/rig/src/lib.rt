@@ -1,5 +1,7 @@
 // Rigs: machines with numbered moves, judged by what they can do for ever.
 // A rig's replies depend on the rig and the state alone; asking alters nothing.
+#![tactic(auto)]
+
 ghost use Rattle.std.specs.Prelude.{◌≡◌, ℕ, ◌<◌, ◌≤◌, true, Decides};
 ghost use Rattle.rig.specs.Meaning.{Meaning, lawful, after, choice};
 ghost use Rattle.rig.specs.Laws.{Laws};

@@ -1,4 +1,6 @@
 // Round records: a bank table with a round that is lawful for ever on its panelled reader.
+#![tactic(auto)]
+
 mod parts;
 mod record;
 mod stored;

@@ -1,4 +1,6 @@
 // Running a round: a reader that is started on a round record tells its dwells one after another.
+#![tactic(auto)]
+
 mod reader;
 #[cfg(test)]
 mod tests;

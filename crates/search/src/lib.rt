@@ -1,5 +1,7 @@
 // The search book: a depth-first search over any rig for a round that is lawful for ever,
 // in rows of lent memory, with effort granted in portions.
+#![tactic(auto)]
+
 mod book;
 mod calls;
 mod copy;

@@ -27,7 +27,7 @@ pub(crate) fn latest_covered<R: Rig>(
     state: &R::State,
 ) -> Option<usize>
     requires { taken ≤ length rows.now }
-    ensures { Latest (covered_by (means rig.now) state.now) rows.now taken result }
+    ensures { Latest (covered_by (R.means rig.now) state.now) rows.now taken result }
 {
     for k in (0..taken).rev() {
         let row = rows[k];

@@ -41,7 +41,7 @@ pub(crate) fn usable(rows: usize) -> usize
 
 // The set of all moves of a rig.
 fn all_moves<R: Rig>(rig: &R) -> Moves
-    ensures all { (k : ℕ) → in_set result.held k ≡ nat_lt k (means rig.now).moves }
+    ensures all { (k : ℕ) → in_set result.held k ≡ nat_lt k (R.means rig.now).moves }
     ensures some { in_set result.held 0 ≡ true }
 {
     let mut all = Moves::none();
@@ -61,9 +61,9 @@ fn enter<R: Rig>(
     by: u8,
 ) -> Option<Step<R::State>>
     requires within { taken ≤ usable-of (length rows.now) }
-    requires next { Next (means rig.now) rows.now taken by state }
-    requires proper { (means rig.now).proper state ≡ true }
-    ensures { MatchOption result (Dead (means rig.now) rows.now taken state) (λ x. Stepped (means rig.now) rows.now taken left x) }
+    requires next { Next (R.means rig.now) rows.now taken by state }
+    requires proper { (R.means rig.now).proper state ≡ true }
+    ensures { MatchOption result (Dead (R.means rig.now) rows.now taken state) (λ x. Stepped (R.means rig.now) rows.now taken left x) }
 {
     if rig.hopeless(&state) {
         return None;
@@ -106,7 +106,7 @@ fn chosen<R: Rig>(rig: &R, row: &Row<R::State>) -> u8
 
 // A fresh book enters rest.
 fn first_step<R: Rig>(rig: &R, rows: &[Row<R::State>], left: u32) -> Step<R::State>
-    ensures { Stepped (means rig.now) rows.now 0 left result }
+    ensures { Stepped (R.means rig.now) rows.now 0 left result }
 {
     match enter(rig, rows, 0, left, rig.rest(), 0) {
         Some(step) => step,
@@ -126,7 +126,7 @@ fn try_move<R: Rig>(
 ) -> Step<R::State>
     requires within { taken ≤ usable-of (length rows.now) }
     requires end { Latest on_path rows.now taken (Some at) }
-    ensures { Stepped (means rig.now) rows.now taken left result }
+    ensures { Stepped (R.means rig.now) rows.now taken left result }
 {
     let row = rows[at];
     let by = chosen(rig, &row);
@@ -156,7 +156,7 @@ pub(crate) fn next_step<R: Rig>(
     left: u32,
 ) -> Step<R::State>
     requires { taken ≤ usable-of (length rows.now) }
-    ensures { Stepped (means rig.now) rows.now taken left result }
+    ensures { Stepped (R.means rig.now) rows.now taken left result }
 {
     if taken == 0 {
         return first_step(rig, rows, left);

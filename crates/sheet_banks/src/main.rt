@@ -1,4 +1,6 @@
 // Reads a feeder sheet from standard input, and prints what each bank needs or why the sheet is refused.
+#![tactic(auto)]
+
 use accounts::SheetAccount;
 use sheets::read_sheet;
 use std::io;

@@ -1,4 +1,6 @@
 // Feeder sheets.
+#![tactic(auto)]
+
 mod feeder;
 mod limits;
 mod lines;

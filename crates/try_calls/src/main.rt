@@ -1,4 +1,6 @@
 // A tester's tool: makes the calls of a script on a search book, and prints each reply.
+#![tactic(auto)]
+
 use scripts::print_script;
 use std::io::Read;
 

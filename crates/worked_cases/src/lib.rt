@@ -1,4 +1,6 @@
 // Worked cases of the rules, proved of the definitions.
+#![tactic(auto)]
+
 ghost use Rattle.std.specs.Prelude.{◌≡◌, length, All};
 ghost use Rattle.worked_cases.specs.Cases.{Established, worked_cases};
 

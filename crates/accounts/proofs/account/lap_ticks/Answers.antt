@@ -10,8 +10,8 @@ loop-n-preserved c =
     let i = c.loop-n.invariant in
     let more = clock_next c.args.table.now (again c.args.list.now) c.loop-n.n in (
       i.0,
-      omega (arith, i.1, more, c.settling_before.ensures.value, c.dwell-of.ensures.value),
-      omega (arith, i.2, c.settling_before.ensures.few, c.dwell-of.ensures.few),
+      omega (arith, i.1, more, c.settling_before.ensures.value, c.dwell_of.ensures.value),
+      omega (arith, i.2, c.settling_before.ensures.few, c.dwell_of.ensures.few),
     )
 
 pub returns : goal.returns

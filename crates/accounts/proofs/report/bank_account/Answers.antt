@@ -15,7 +15,7 @@ unwrap-requires c =
     let t = c.table-table.result in
     let xs = c.list-list.result.now in
     let e = c.list-list.ensures in
-    c.longest-wait.ensures.round (list_few r t xs c.table-table.ensures e.value e.len) (list_kept r t xs c.table-table.ensures e.value e.len) c.in-ok-found.ensures.0
+    c.longest_wait.ensures.round (list_few r t xs c.table-table.ensures e.value e.len) (list_kept r t xs c.table-table.ensures e.value e.len) c.in_ok-found.ensures.0
 
 pub unwrap-requires-2 : goal.unwrap-requires-2
 unwrap-requires-2 c =
@@ -23,7 +23,7 @@ unwrap-requires-2 c =
     let t = c.table-table.result in
     let xs = c.list-list.result.now in
     let e = c.list-list.ensures in
-    c.slack.ensures.round (list_few r t xs c.table-table.ensures e.value e.len) (list_kept r t xs c.table-table.ensures e.value e.len) c.in-ok-found.ensures.0
+    c.slack.ensures.round (list_few r t xs c.table-table.ensures e.value e.len) (list_kept r t xs c.table-table.ensures e.value e.len) c.in_ok-found.ensures.0
 
 pub returns : goal.returns
 returns c =
@@ -33,8 +33,8 @@ returns c =
     let xs = c.list-list.result.now in
     let e = c.list-list.ensures in
     let b = c.args.bank in
-    let found = c.in-ok-found.ensures in
-    let waits = (MatchOption-at_some (Lap t xs → Occurs xs b → ⊥) (λ w. Lap t xs × LongestWait t (again xs) b w) c.unwrap.result c.unwrap.ensures c.longest-wait.ensures.told).1 in
+    let found = c.in_ok-found.ensures in
+    let waits = (MatchOption-at_some (Lap t xs → Occurs xs b → ⊥) (λ w. Lap t xs × LongestWait t (again xs) b w) c.unwrap.result c.unwrap.ensures c.longest_wait.ensures.told).1 in
     let left = MatchOption-at_some ((s : ℕ) → Slack t xs b s → ⊥) (λ s. Slack t xs b s) c.unwrap-2.result c.unwrap-2.ensures c.slack.ensures.left in
     let told = waits_told r t xs same e.value e.len b c.unwrap.result c.unwrap-2.result waits left in
     let bank = found.1 ∙ ap (λ (u : BankTable). bank_at u.banks b) same in
@@ -43,7 +43,7 @@ returns c =
       panel_told = ap (λ (k : Bank). k.panel) bank;
       dwell_told = ap (λ (k : Bank). k.dwell) bank;
       gap_told = ap (λ (k : Bank). k.gap) bank;
-      dwells_told = c.dwells-on.ensures ∙ ap (count_by (λ x. eqb x b)) e.value;
+      dwells_told = c.dwells_on.ensures ∙ ap (count_by (λ x. eqb x b)) e.value;
       longest_told = told.0;
       slack_told = told.1;
     }

@@ -11,7 +11,7 @@ pub loop-bank-preserved : goal.loop-bank-preserved
 loop-bank-preserved c =
     let r = c.args.round.now in
     let old = c.loop-bank.invariant in
-    let here = c.slack-in-slack.ensures in
+    let here = c.slack_in-slack.ensures in
     let Next : BankSlack → Type 0 = λ b. LeastSlack r.table (list_of r) (c.loop-bank.bank + 1) b.bank b.slack in
     elim c.if-slack-least.branch [
       | then-slack-least w ↦ subst Next (sym w.least-is) (least_here r.table (list_of r) _ _ _ _ old here w.if-slack-least.true)

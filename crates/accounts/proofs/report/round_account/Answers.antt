@@ -23,5 +23,5 @@ returns c =
       settle = c.settle.ensures ∙ ap (λ (u : BankTable). u.settle) c.table-table.ensures;
       dwells = ap length c.list-list.ensures.value;
       ticks = subst (λ (u : BankTable). LapTicks u (list_of c.args.round.now) c.unwrap-ticks.result) c.table-table.ensures (subst (λ (ys : List ℕ). LapTicks t ys c.unwrap-ticks.result) c.list-list.ensures.value told);
-      certain = c.closing-lap.ensures;
+      certain = c.closing_lap.ensures;
     }

@@ -8,43 +8,43 @@ use Rattle.banks.specs.Stored.{bank_column}
 use Rattle.banks.proofs.TableLines.{BankGood, bank_good_at, bank_bad, bank_read}
 use Rattle.banks.proofs.stored.read_bank.Goals as goal
 
-pub returns-in-err-frame : goal.returns-in-err-frame
-returns-in-err-frame c =
-    let p = err_from_is_err_and c.from-residual.result c.from-residual.ensures.1 in
+pub returns-in_err-frame : goal.returns-in_err-frame
+returns-in_err-frame c =
+    let p = err_from_is_err_and c.from_residual.result c.from_residual.ensures.1 in
     let e : c.args.i + 2 ≡ 2 + c.args.i = omega arith in
-    rw (p.1, p.2, ← e) (next_fails 18 (bank_column c.args.i) c.args.bytes.now (c.args.i + 2) c.in-err-frame.field-0.0 c.requires.0 c.in-err-frame.ensures)
+    rw (p.1, p.2, ← e) (next_fails 18 (bank_column c.args.i) c.args.bytes.now (c.args.i + 2) c.in_err-frame.field-0.0 c.requires.0 c.in_err-frame.ensures)
 
-pub returns-in-default : goal.returns-in-default
-returns-in-default c =
+pub returns-in_default : goal.returns-in_default
+returns-in_default c =
     let e : c.args.i + 2 ≡ 2 + c.args.i = omega arith in
-    rw (← e) (other_frame 18 (bank_column c.args.i) c.args.bytes.now (c.args.i + 2) c.in-ok-frame.frame c.in-ok-frame.after.now c.in-ok-frame.ensures (not_kind 18 c.in-ok-frame.frame c.in-default.not-RoundBank))
+    rw (← e) (other_frame 18 (bank_column c.args.i) c.args.bytes.now (c.args.i + 2) c.in_ok-frame.frame c.in_ok-frame.after.now c.in_ok-frame.ensures (not_kind 18 c.in_ok-frame.frame c.in_default.not-RoundBank))
 
 pub returns-then-column-gt0 : goal.returns-then-column-gt0
 returns-then-column-gt0 c =
     let bytes = c.args.bytes.now in
-    let after = c.in-ok-frame.after.now in
+    let after = c.in_ok-frame.after.now in
     let e : c.args.i + 2 ≡ 2 + c.args.i = omega arith in
-    let read = subst (λ (f : Frame). FrameRead bytes f after) c.in-RoundBank.is c.in-ok-frame.ensures in
+    let read = subst (λ (f : Frame). FrameRead bytes f after) c.in-RoundBank.is c.in_ok-frame.ensures in
     rw (← e)
-    (bank_bad bytes c.in-RoundBank.body after c.args.i c.number-at-at.result c.number-at-panel.result c.number-at-dwell.result c.number-at-gap.result c.bank-fault-column.result read
-    c.number-at-at.ensures.read c.number-at-panel.ensures.read c.number-at-dwell.ensures.read c.number-at-gap.ensures.read c.bank-fault-column.ensures (c.args.i + 2) c.if-column-gt0.true)
+    (bank_bad bytes c.in-RoundBank.body after c.args.i c.number_at-at.result c.number_at-panel.result c.number_at-dwell.result c.number_at-gap.result c.bank_fault-column.result read
+    c.number_at-at.ensures.read c.number_at-panel.ensures.read c.number_at-dwell.ensures.read c.number_at-gap.ensures.read c.bank_fault-column.ensures (c.args.i + 2) c.if-column-gt0.true)
 
-good : (c : goal.Else-column-gt0) → BankGood c.args.i c.number-at-at.result c.number-at-panel.result c.number-at-dwell.result c.number-at-gap.result
-good c = bank_good_at c.args.i c.number-at-at.result c.number-at-panel.result c.number-at-dwell.result c.number-at-gap.result c.bank-fault-column.result c.bank-fault-column.ensures c.if-column-gt0.false
+good : (c : goal.Else-column-gt0) → BankGood c.args.i c.number_at-at.result c.number_at-panel.result c.number_at-dwell.result c.number_at-gap.result
+good c = bank_good_at c.args.i c.number_at-at.result c.number_at-panel.result c.number_at-dwell.result c.number_at-gap.result c.bank_fault-column.result c.bank_fault-column.ensures c.if-column-gt0.false
 
-pub overflow-cast-result : goal.overflow-cast-result
-overflow-cast-result c = let g = (good c).panel_low in omega (arith, g)
+pub overflow_cast-result : goal.overflow_cast-result
+overflow_cast-result c = let g = (good c).panel_low in omega (arith, g)
 
-pub overflow-cast-result-2 : goal.overflow-cast-result-2
-overflow-cast-result-2 c = let g = (good c).dwell_low in omega (arith, g)
+pub overflow_cast-result-2 : goal.overflow_cast-result-2
+overflow_cast-result-2 c = let g = (good c).dwell_low in omega (arith, g)
 
-pub overflow-cast-result-3 : goal.overflow-cast-result-3
-overflow-cast-result-3 c = let g = (good c).gap_low in omega (arith, g)
+pub overflow_cast-result-3 : goal.overflow_cast-result-3
+overflow_cast-result-3 c = let g = (good c).gap_low in omega (arith, g)
 
 pub returns : goal.returns
 returns c =
     let bytes = c.args.bytes.now in
-    let after = c.in-ok-frame.after.now in
-    let read = subst (λ (f : Frame). FrameRead bytes f after) c.in-RoundBank.is c.in-ok-frame.ensures in
-    bank_read bytes c.in-RoundBank.body after c.args.i c.number-at-at.result c.number-at-panel.result c.number-at-dwell.result c.number-at-gap.result c.bank-fault-column.result read
-    c.number-at-at.ensures.read c.number-at-panel.ensures.read c.number-at-dwell.ensures.read c.number-at-gap.ensures.read c.bank-fault-column.ensures (good c)
+    let after = c.in_ok-frame.after.now in
+    let read = subst (λ (f : Frame). FrameRead bytes f after) c.in-RoundBank.is c.in_ok-frame.ensures in
+    bank_read bytes c.in-RoundBank.body after c.args.i c.number_at-at.result c.number_at-panel.result c.number_at-dwell.result c.number_at-gap.result c.bank_fault-column.result read
+    c.number_at-at.ensures.read c.number_at-panel.ensures.read c.number_at-dwell.ensures.read c.number_at-gap.ensures.read c.bank_fault-column.ensures (good c)

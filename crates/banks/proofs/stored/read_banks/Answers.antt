@@ -8,21 +8,21 @@ use Rattle.banks.proofs.stored.read_banks.Goals as goal
 pub loop-i-init : goal.loop-i-init
 loop-i-init c = (no_banks c.args.bytes.now, refl)
 
-pub read-bank-requires : goal.read-bank-requires
-read-bank-requires c =
+pub read_bank-requires : goal.read_bank-requires
+read_bank-requires c =
     let s = rest_short c.args.bytes.now (bank_lines c.loop-i.banks c.loop-i.i) c.loop-i.rest.now c.loop-i.invariant.0.text in
     (omega (arith, s, c.requires.0), omega (arith, c.requires.1, c.loop-i-test.true))
 
 pub loop-i-preserved : goal.loop-i-preserved
 loop-i-preserved c =
-    let e = c.in-ok-bank.ensures in (
-      one_bank_more c.args.bytes.now c.loop-i.banks c.loop-i.i c.loop-i.rest.now c.in-ok-bank.bank c.in-ok-bank.next.now c.loop-i.invariant.0 (omega (arith, c.requires.1, c.loop-i-test.true, c.loop-i.invariant.1)) e.0 e.1,
-      length-set c.loop-i.banks c.loop-i.i c.in-ok-bank.bank ∙ c.loop-i.invariant.1,
+    let e = c.in_ok-bank.ensures in (
+      one_bank_more c.args.bytes.now c.loop-i.banks c.loop-i.i c.loop-i.rest.now c.in_ok-bank.bank c.in_ok-bank.next.now c.loop-i.invariant.0 (omega (arith, c.requires.1, c.loop-i-test.true, c.loop-i.invariant.1)) e.0 e.1,
+      length-set c.loop-i.banks c.loop-i.i c.in_ok-bank.bank ∙ c.loop-i.invariant.1,
     )
 
-pub returns-in-err-bank : goal.returns-in-err-bank
-returns-in-err-bank c =
-    let p = err_from_is_err_and c.from-residual.result c.from-residual.ensures.1 in
+pub returns-in_err-bank : goal.returns-in_err-bank
+returns-in_err-bank c =
+    let p = err_from_is_err_and c.from_residual.result c.from_residual.ensures.1 in
     rw (p.1, p.2)
     (record {
       i = c.loop-i.i;
@@ -30,7 +30,7 @@ returns-in-err-bank c =
       rest = c.loop-i.rest.now;
       due = c.loop-i-test.true;
       good = c.loop-i.invariant.0;
-      bad = c.in-err-bank.ensures;
+      bad = c.in_err-bank.ensures;
     })
 
 pub returns : goal.returns

@@ -12,14 +12,14 @@ returns c =
     let n = t.count in
     let d = deadline t (age_at c.args.ages.now) in
     let u = in_set c.args.untried.now.held in
-    let o = c.due-first.result in
-    let r = c.unwrap-or.result in
+    let o = c.due_first.result in
+    let r = c.unwrap_or.result in
     let same = ap age_at c.deadlines.ensures ∙ deadlines_whole t (age_at c.args.ages.now) in
     let first =
     subst (λ (f : ℕ → ℕ). MatchOption o (NoneUntried n u) (DueFirst n f u)) same
-    (subst (λ (m : ℕ). MatchOption o (NoneUntried m u) (DueFirst m (age_at c.deadlines.result) u)) c.count.ensures c.due-first.ensures) in
+    (subst (λ (m : ℕ). MatchOption o (NoneUntried m u) (DueFirst m (age_at c.deadlines.result) u)) c.count.ensures c.due_first.ensures) in
     record {
-      value = chosen_value n d u o r c.unwrap-or.ensures first;
-      some = chosen_some n d u o r c.unwrap-or.ensures first;
-      none = chosen_none n d u o r c.unwrap-or.ensures first;
+      value = chosen_value n d u o r c.unwrap_or.ensures first;
+      some = chosen_some n d u o r c.unwrap_or.ensures first;
+      none = chosen_none n d u o r c.unwrap_or.ensures first;
     }

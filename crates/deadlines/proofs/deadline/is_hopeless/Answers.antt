@@ -11,9 +11,9 @@ pub returns : goal.returns
 returns c =
     let t = c.args.table.now in
     let d = deadline t (age_at c.args.ages.now) in
-    let r = c.some-overdue.result in
+    let r = c.some_overdue.result in
     let same = ap age_at c.deadlines.ensures ∙ deadlines_whole t (age_at c.args.ages.now) in
-    let over = subst (λ (f : ℕ → ℕ). Decides r (Hopeless t f)) same c.some-overdue.ensures in
+    let over = subst (λ (f : ℕ → ℕ). Decides r (Hopeless t f)) same c.some_overdue.ensures in
     record {
       value = same_from_decides r (some_overrun t d) over (overrun_decides t d);
       over = over;

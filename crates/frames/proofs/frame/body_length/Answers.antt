@@ -35,6 +35,6 @@ pub returns-in-31 : goal.returns-in-31
 unfolding digits_after
 returns-in-31 c = ap (λ k. digits_after k c.args.body.now) (sym c.in-31.is)
 
-pub returns-in-default : goal.returns-in-default
+pub returns-in_default : goal.returns-in_default
 unfolding digits_after
-returns-in-default c = let h = c.in-default in grind (arith, nat_tests)
+returns-in_default c = let h = c.in_default in grind (arith, nat_tests)

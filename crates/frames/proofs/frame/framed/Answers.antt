@@ -3,6 +3,6 @@ use Rattle.std.proofs.lemmas.Bool.Decides.{nat_tests}
 use Rattle.frames.specs.Frames.{digits_after}
 use Rattle.frames.proofs.frame.framed.Goals as goal
 
-pub returns-in-default : goal.returns-in-default
+pub returns-in_default : goal.returns-in_default
 unfolding digits_after
-returns-in-default c = let h = c.in-default in grind (arith, nat_tests)
+returns-in_default c = let h = c.in_default in grind (arith, nat_tests)

@@ -13,15 +13,15 @@ returns c =
     let v = c.args.verdict in
     let r = c.args.round.now in
     let list = c.list-list.ensures in
-    let out = c.put-verdict-at.new.out in
-    let at = c.put-verdict-at.result in
-    let n = c.put-round.result in
-    let piece = c.put-round.new.out in
+    let out = c.put_verdict-at.new.out in
+    let at = c.put_verdict-at.result in
+    let n = c.put_round.result in
+    let piece = c.put_round.new.out in
     let behind : text_behind v r ≡ stored_text r = ap (λ (w : Verdict). text_behind w r) c.in-Round.is in
     let round : Put (stored_text r) (take (length out - at) (drop at out)) piece n =
-    put_stored r c.table-table.result c.list-list.result.now (take (length out - at) (drop at out)) piece n c.table-table.ensures list.value c.put-round.ensures in
+    put_stored r c.table-table.result c.list-list.result.now (take (length out - at) (drop at out)) piece n c.table-table.ensures list.value c.put_round.ensures in
     let p : Put (answer_text v c.args.visits r) c.args.out.now (put_mid at (length out - at) out piece) (at + n) =
-    put_more (verdict_line v c.args.visits) (text_behind v r) c.args.out.now out piece at n c.put-verdict-at.ensures (subst (λ (t : List ℕ). Put t (take (length out - at) (drop at out)) piece n) (sym behind) round) in
+    put_more (verdict_line v c.args.visits) (text_behind v r) c.args.out.now out piece at n c.put_verdict-at.ensures (subst (λ (t : List ℕ). Put t (take (length out - at) (drop at out)) piece n) (sym behind) round) in
     record {
       reply = p;
       read =

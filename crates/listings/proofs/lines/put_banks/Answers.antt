@@ -13,8 +13,8 @@ pub loop-i-init : goal.loop-i-init
 unfolding bank_lines
 loop-i-init c = put_none c.args.out.now
 
-pub put-bank-at-requires : goal.put-bank-at-requires
-put-bank-at-requires c =
+pub put_bank-at-requires : goal.put_bank-at-requires
+put_bank-at-requires c =
     let bs = c.args.table.now.banks in
     let p = c.loop-i.invariant in
     rest_room (bank_lines bs c.loop-i.i) c.args.out.now c.loop-i.out c.loop-i.at 15 p (omega (arith, c.requires, p.told, length_banks bs c.loop-i.i, c.loop-i-test.true, c.count-i-end.ensures))
@@ -25,8 +25,8 @@ loop-i-preserved c =
     let i = c.loop-i.i in
     let at = c.loop-i.at in
     let out = c.loop-i.out in
-    let piece = c.put-bank-at.new.out in
-    let n = c.put-bank-at.result in
+    let piece = c.put_bank-at.new.out in
+    let n = c.put_bank-at.result in
     subst (λ (t : List ℕ). Put t c.args.out.now (put_mid at (length out - at) out piece) (at + n)) (sym (bank_lines_more bs i))
     (put_more (bank_lines bs i) (bank_line i (bank_at bs i)) c.args.out.now out piece at n c.loop-i.invariant
-    (subst (λ (b : Bank). Put (bank_line i b) (take (length out - at) (drop at out)) piece n) c.at.ensures c.put-bank-at.ensures))
+    (subst (λ (b : Bank). Put (bank_line i b) (take (length out - at) (drop at out)) piece n) c.at.ensures c.put_bank-at.ensures))

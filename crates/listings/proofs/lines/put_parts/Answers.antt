@@ -6,11 +6,11 @@ use Rattle.listings.proofs.lines.put_parts.Goals as goal
 
 pub loop-part-init : goal.loop-part-init
 loop-part-init c =
-    let same = c.into-iter-part-iterator.ensures.into-iter-gives in
+    let same = c.into_iter-part-iterator.ensures.into_iter-gives in
     parts_none c.args.list.now c.args.out.now c.requires _ _ (ap chunks_rest same ∙ c.chunks-part-items.ensures.rest) (ap chunks_size same ∙ c.chunks-part-items.ensures.size)
 
-pub put-part-at-requires : goal.put-part-at-requires
-put-part-at-requires c =
+pub put_part-at-requires : goal.put_part-at-requires
+put_part-at-requires c =
     let step = c.in-Some.ensures.steps.1 in
     record {
       few = next_few c.args.list.now c.args.out.now c.requires c.loop-part.out c.loop-part.at (length c.loop-part.yielded) _ _ c.loop-part.invariant c.in-Some.part.now _ step.0 step.1 step.2;
@@ -21,4 +21,4 @@ pub loop-part-preserved : goal.loop-part-preserved
 loop-part-preserved c =
     let step = c.in-Some.ensures.steps in
     parts_more c.args.list.now c.args.out.now c.requires c.loop-part.out c.loop-part.at (length c.loop-part.yielded) _ _ c.loop-part.invariant c.in-Some.part.now _ step.1.0 step.1.1 step.1.2
-    c.put-part-at.new.out c.put-part-at.result _ _ (length_push c.loop-part.yielded c.in-Some.part) step.0 c.put-part-at.ensures
+    c.put_part-at.new.out c.put_part-at.result _ _ (length_push c.loop-part.yielded c.in-Some.part) step.0 c.put_part-at.ensures

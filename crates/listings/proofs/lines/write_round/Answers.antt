@@ -7,8 +7,8 @@ pub returns : goal.returns
 returns c =
     let r = c.args.round.now in
     let list = c.list-list.ensures in
-    let p = put_stored r c.table-table.result c.list-list.result.now c.args.out.now c.put-round.new.out c.put-round.result c.table-table.ensures list.value c.put-round.ensures in
+    let p = put_stored r c.table-table.result c.list-list.result.now c.args.out.now c.put_round.new.out c.put_round.result c.table-table.ensures list.value c.put_round.ensures in
     record {
       reply = p;
-      read = reads_back r _ (ap length (sym list.value) ∙ list.len) (front (stored_text r) c.args.out.now c.put-round.new.out c.put-round.result p);
+      read = reads_back r _ (ap length (sym list.value) ∙ list.len) (front (stored_text r) c.args.out.now c.put_round.new.out c.put_round.result p);
     }

@@ -6,15 +6,15 @@ use Rattle.readers.specs.AgeLaws.{grown_within}
 use Rattle.banks.proofs.Spread.{spread_filled}
 use Rattle.readers.proofs.ages.ages_after.Goals as goal
 
-pub overflow-add-after : goal.overflow-add-after
-overflow-add-after c = omega (
+pub overflow_add-after : goal.overflow_add-after
+overflow_add-after c = omega (
   arith,
   grown_within c.args.table.now (age_at c.args.ages.now) c.args.j c.args.settling c.requires.bank c.requires.fits c.loop-i.i (omega arith)
       c.if-i-own.true,
 )
 
-pub overflow-add-after-then-i-own : goal.overflow-add-after-then-i-own
-overflow-add-after-then-i-own c = omega (
+pub overflow_add-after-then-i-own : goal.overflow_add-after-then-i-own
+overflow_add-after-then-i-own c = omega (
   arith,
   grown_within c.args.table.now (age_at c.args.ages.now) c.args.j c.args.settling c.requires.bank c.requires.fits c.loop-i.i (omega arith)
       c.if-i-own.true,

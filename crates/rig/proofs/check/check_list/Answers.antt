@@ -21,7 +21,7 @@ pub loop-s-init : goal.loop-s-init
 loop-s-init g c =
     let m = g.R.Rig.means c.args.rig.now in
     going_start m c.args.list.now c.rest-first.result c.rest-first.ensures
-    (subst (λ (n : ℕ). OnlyMoves n c.args.list.now) c.moves.ensures.value c.in-default.ensures)
+    (subst (λ (n : ℕ). OnlyMoves n c.args.list.now) c.moves.ensures.value c.in_default.ensures)
 
 pub returns-in-Err : goal.returns-in-Err
 returns-in-Err g c =
@@ -38,8 +38,8 @@ returns-then-covers g c =
     let good = going_closes m c.args.list.now c.loop-s.lap c.loop-s.first c.in-Ok.s c.loop-s.invariant c.in-Ok.ensures (g.met.R.Rig.shown c.args.rig.now) (sym c.if-covers.ensures) in
     record { reply = good; exact = (λ e. good.0, λ h. refl) }
 
-pub overflow-add-lap : goal.overflow-add-lap
-overflow-add-lap g c =
+pub overflow_add-lap : goal.overflow_add-lap
+overflow_add-lap g c =
     let m = g.R.Rig.means c.args.rig.now in
     let laws = g.met.R.Rig.shown c.args.rig.now in
     let i = c.loop-s.invariant in

@@ -12,40 +12,40 @@ use Rattle.rounds.specs.Parts.{part_column, OnlyBanks}
 use Rattle.rounds.proofs.PartLines.{not_part, part_frame, part_good, part_text}
 use Rattle.rounds.proofs.parts.read_part.Goals as goal
 
-pub returns-in-err-frame : goal.returns-in-err-frame
-returns-in-err-frame c =
-    let p = err_from_is_err_and c.from-residual.result c.from-residual.ensures.1 in
-    rw (p.1, p.2) (next_fails 19 (part_column c.args.banks (length c.args.into.now)) c.args.rest.now c.args.line c.in-err-frame.field-0.0 c.requires.size c.in-err-frame.ensures)
+pub returns-in_err-frame : goal.returns-in_err-frame
+returns-in_err-frame c =
+    let p = err_from_is_err_and c.from_residual.result c.from_residual.ensures.1 in
+    rw (p.1, p.2) (next_fails 19 (part_column c.args.banks (length c.args.into.now)) c.args.rest.now c.args.line c.in_err-frame.field-0.0 c.requires.size c.in_err-frame.ensures)
 
-pub returns-in-default : goal.returns-in-default
-returns-in-default c =
-    other_frame 19 (part_column c.args.banks (length c.args.into.now)) c.args.rest.now c.args.line c.in-ok-frame.frame c.in-ok-frame.after.now c.in-ok-frame.ensures (not_part c.in-ok-frame.frame c.in-default.not-RoundPart)
+pub returns-in_default : goal.returns-in_default
+returns-in_default c =
+    other_frame 19 (part_column c.args.banks (length c.args.into.now)) c.args.rest.now c.args.line c.in_ok-frame.frame c.in_ok-frame.after.now c.in_ok-frame.ensures (not_part c.in_ok-frame.frame c.in_default.not-RoundPart)
 
-pub part-column-column-requires : goal.part-column-column-requires
-part-column-column-requires c =
-    let f = part_frame c.args.rest.now c.in-ok-frame.frame c.in-RoundPart.body c.in-ok-frame.after.now c.in-RoundPart.is c.in-ok-frame.ensures in
+pub part_column-column-requires : goal.part_column-column-requires
+part_column-column-requires c =
+    let f = part_frame c.args.rest.now c.in_ok-frame.frame c.in-RoundPart.body c.in_ok-frame.after.now c.in-RoundPart.is c.in_ok-frame.ensures in
     record { digits = f.digits; size = f.size; few = c.requires.few }
 
 pub returns-then-column-gt0 : goal.returns-then-column-gt0
 returns-then-column-gt0 c =
-    let f = part_frame c.args.rest.now c.in-ok-frame.frame c.in-RoundPart.body c.in-ok-frame.after.now c.in-RoundPart.is c.in-ok-frame.ensures in
-    f.bad (part_column c.args.banks (length c.args.into.now)) c.args.line c.part-column-column.result c.part-column-column.ensures c.if-column-gt0.true
+    let f = part_frame c.args.rest.now c.in_ok-frame.frame c.in-RoundPart.body c.in_ok-frame.after.now c.in-RoundPart.is c.in_ok-frame.ensures in
+    f.bad (part_column c.args.banks (length c.args.into.now)) c.args.line c.part_column-column.result c.part_column-column.ensures c.if-column-gt0.true
 
-pub slice-bounds-put-banks-count : goal.slice-bounds-put-banks-count
-slice-bounds-put-banks-count c =
-    let f = part_frame c.args.rest.now c.in-ok-frame.frame c.in-RoundPart.body c.in-ok-frame.after.now c.in-RoundPart.is c.in-ok-frame.ensures in
+pub slice_bounds-put_banks-count : goal.slice_bounds-put_banks-count
+slice_bounds-put_banks-count c =
+    let f = part_frame c.args.rest.now c.in_ok-frame.frame c.in-RoundPart.body c.in_ok-frame.after.now c.in-RoundPart.is c.in_ok-frame.ensures in
     omega (arith, f.size)
 
-pub slice-bounds-put-banks-start : goal.slice-bounds-put-banks-start
-slice-bounds-put-banks-start c =
-    let f = part_frame c.args.rest.now c.in-ok-frame.frame c.in-RoundPart.body c.in-ok-frame.after.now c.in-RoundPart.is c.in-ok-frame.ensures in
+pub slice_bounds-put_banks-start : goal.slice_bounds-put_banks-start
+slice_bounds-put_banks-start c =
+    let f = part_frame c.args.rest.now c.in_ok-frame.frame c.in-RoundPart.body c.in_ok-frame.after.now c.in-RoundPart.is c.in_ok-frame.ensures in
     omega (arith, f.size)
 
-pub put-banks-requires : goal.put-banks-requires
-put-banks-requires c =
+pub put_banks-requires : goal.put_banks-requires
+put_banks-requires c =
     let body = c.in-RoundPart.body.now in
-    let f = part_frame c.args.rest.now c.in-ok-frame.frame c.in-RoundPart.body c.in-ok-frame.after.now c.in-RoundPart.is c.in-ok-frame.ensures in
-    let none : part_column c.args.banks (length c.args.into.now) body ≡ 0 = sym c.part-column-column.ensures ∙ (omega (arith, c.if-column-gt0.false)) in
+    let f = part_frame c.args.rest.now c.in_ok-frame.frame c.in-RoundPart.body c.in_ok-frame.after.now c.in-RoundPart.is c.in_ok-frame.ensures in
+    let none : part_column c.args.banks (length c.args.into.now) body ≡ 0 = sym c.part_column-column.ensures ∙ (omega (arith, c.if-column-gt0.false)) in
     let g = part_good c.args.banks (length c.args.into.now) body none in
     let same = take_rest body 2 in
     record {
@@ -56,10 +56,10 @@ put-banks-requires c =
 pub returns : goal.returns
 returns c =
     let body = c.in-RoundPart.body.now in
-    let xs = c.put-banks.new.into in
-    let f = part_frame c.args.rest.now c.in-ok-frame.frame c.in-RoundPart.body c.in-ok-frame.after.now c.in-RoundPart.is c.in-ok-frame.ensures in
-    let none : part_column c.args.banks (length c.args.into.now) body ≡ 0 = sym c.part-column-column.ensures ∙ (omega (arith, c.if-column-gt0.false)) in
-    let same : length xs ≡ length c.args.into.now = c.put-banks.auto.into in
-    part_text c.args.rest.now body c.in-ok-frame.after.now xs c.args.banks f.text f.digits f.size
+    let xs = c.put_banks.new.into in
+    let f = part_frame c.args.rest.now c.in_ok-frame.frame c.in-RoundPart.body c.in_ok-frame.after.now c.in-RoundPart.is c.in_ok-frame.ensures in
+    let none : part_column c.args.banks (length c.args.into.now) body ≡ 0 = sym c.part_column-column.ensures ∙ (omega (arith, c.if-column-gt0.false)) in
+    let same : length xs ≡ length c.args.into.now = c.put_banks.auto.into in
+    part_text c.args.rest.now body c.in_ok-frame.after.now xs c.args.banks f.text f.digits f.size
     (subst (λ (n : ℕ). part_column c.args.banks n body ≡ 0) (sym same) none)
-    (λ k h. c.put-banks.ensures k h ∙ ap (field (2 * k) 2) (take_rest body 2))
+    (λ k h. c.put_banks.ensures k h ∙ ap (field (2 * k) 2) (take_rest body 2))

@@ -6,12 +6,12 @@ use Rattle.readers.specs.Panelled.{panelled}
 use Rattle.rounds.proofs.Ends.{has_unlawful, end_unlawful}
 use Rattle.rounds.proofs.stored.finish.Goals as goal
 
-pub unlawful-at-requires : goal.unlawful-at-requires
-unlawful-at-requires c =
+pub unlawful_at-requires : goal.unlawful_at-requires
+unlawful_at-requires c =
     has_unlawful c.args.table c.args.list.now c.in-Err.unfit c.requires.moves
     (list_says (panelled c.args.table) c.args.list.now c.in-Err.unfit (subst (λ (t : BankTable). ListFault (panelled t) c.args.list.now (told c.in-Err.unfit)) c.new-reader.ensures c.in-Err.ensures.reply))
 
 pub returns-in-Err : goal.returns-in-Err
 returns-in-Err c =
     let bad = list_says (panelled c.args.table) c.args.list.now c.in-Err.unfit (subst (λ (t : BankTable). ListFault (panelled t) c.args.list.now (told c.in-Err.unfit)) c.new-reader.ensures c.in-Err.ensures.reply) in
-    (end_unlawful c.args.table c.args.list.now c.args.rest.now c.last-line-line.result c.in-Err.unfit c.unlawful_at.result bad c.unlawful_at.ensures c.last-line-line.ensures, refl)
+    (end_unlawful c.args.table c.args.list.now c.args.rest.now c.last_line-line.result c.in-Err.unfit c.unlawful_at.result bad c.unlawful_at.ensures c.last_line-line.ensures, refl)

@@ -32,30 +32,30 @@ only_round bytes t xs r s h = record {
 only_fault : (bytes : List ℕ) (r : Refusal) → FirstFault bytes r → OnlyFault bytes r
 only_fault bytes r f s g = one_first_fault bytes s r g f
 
-pub returns-in-err-stored : goal.returns-in-err-stored
-returns-in-err-stored c =
-    let p = err_from_is_err_and c.from-residual.result c.from-residual.ensures.1 in
-    let fault = in_table c.in-err-stored.ensures in
+pub returns-in_err-stored : goal.returns-in_err-stored
+returns-in_err-stored c =
+    let p = err_from_is_err_and c.from_residual.result c.from_residual.ensures.1 in
+    let fault = in_table c.in_err-stored.ensures in
     rw (p.1, p.2) (record { reply = (fault, refl); exact = refuted c.args.bytes.now _ fault; regular = decides_regular c.args.bytes.now false (refuted c.args.bytes.now _ fault); only = only_fault c.args.bytes.now _ fault })
 
-pub returns-in-err-list : goal.returns-in-err-list
-returns-in-err-list c =
-    let p = err_from_is_err_and c.from-residual-in-err-list.result c.from-residual-in-err-list.ensures.1 in
-    let s = c.in-ok-stored.stored in
-    let fault = list_fault c.args.bytes.now s.table s.dwells s.end _ c.count.result _ c.in-ok-stored.ensures.1 c.count.ensures refl c.in-err-list.ensures in
+pub returns-in_err-list : goal.returns-in_err-list
+returns-in_err-list c =
+    let p = err_from_is_err_and c.from_residual-in_err-list.result c.from_residual-in_err-list.ensures.1 in
+    let s = c.in_ok-stored.stored in
+    let fault = list_fault c.args.bytes.now s.table s.dwells s.end _ c.count.result _ c.in_ok-stored.ensures.1 c.count.ensures refl c.in_err-list.ensures in
     rw (p.1, p.2) (record { reply = (fault, refl); exact = refuted c.args.bytes.now _ fault; regular = decides_regular c.args.bytes.now false (refuted c.args.bytes.now _ fault); only = only_fault c.args.bytes.now _ fault })
 
 pub finish-requires : goal.finish-requires
 finish-requires c =
-    let s = c.in-ok-stored.stored in
-    let g = gathered c.args.bytes.now s.table s.dwells s.end _ c.count.result c.in-ok-list.list.banks c.in-ok-list.list.end c.in-ok-stored.ensures.1 c.count.ensures refl c.in-ok-list.ensures in
+    let s = c.in_ok-stored.stored in
+    let g = gathered c.args.bytes.now s.table s.dwells s.end _ c.count.result c.in_ok-list.list.banks c.in_ok-list.list.end c.in_ok-stored.ensures.1 c.count.ensures refl c.in_ok-list.ensures in
     record { few = g.lines.few; moves = g.moves }
 
 pub returns : goal.returns
 returns c =
-    let s = c.in-ok-stored.stored in
+    let s = c.in_ok-stored.stored in
     let bytes = c.args.bytes.now in
-    let g = gathered bytes s.table s.dwells s.end _ c.count.result c.in-ok-list.list.banks c.in-ok-list.list.end c.in-ok-stored.ensures.1 c.count.ensures refl c.in-ok-list.ensures in
+    let g = gathered bytes s.table s.dwells s.end _ c.count.result c.in_ok-list.list.banks c.in_ok-list.list.end c.in_ok-stored.ensures.1 c.count.ensures refl c.in_ok-list.ensures in
     let exact : Decides (is_ok c.finish.result) (SomeStored bytes) = decided bytes c.finish.result (MatchResult-weaker c.finish.result c.finish.ensures
     (λ x h. record { table = s.table; list = _; stored = stored_whole bytes s.table _ _ g.lines h.0 })
     (λ e h. at_end s.table _ _ g.lines h.0)) in

@@ -11,7 +11,7 @@ returns-then-taken-usable g c = (
     by = c.args.by;
     state = c.args.state;
     next = c.requires.next;
-    unlike = unlike (g.R.Rig.means c.args.rig.now) c.args.rows.now c.args.taken c.args.state c.is-dead.result c.in-default.ensures c.is-dead.ensures c.if-is-dead.false;
+    unlike = unlike (g.R.Rig.means c.args.rig.now) c.args.rows.now c.args.taken c.args.state c.is_dead.result c.in_default.ensures c.is_dead.ensures c.if-is_dead.false;
   },
 )
 
@@ -22,16 +22,16 @@ returns-then-left-eq0 g c = (
     by = c.args.by;
     state = c.args.state;
     next = c.requires.next;
-    unlike = unlike (g.R.Rig.means c.args.rig.now) c.args.rows.now c.args.taken c.args.state c.is-dead.result c.in-default.ensures c.is-dead.ensures c.if-is-dead.false;
+    unlike = unlike (g.R.Rig.means c.args.rig.now) c.args.rows.now c.args.taken c.args.state c.is_dead.result c.in_default.ensures c.is_dead.ensures c.if-is_dead.false;
   },
 )
 
 pub returns : goal.returns
 returns g c = record {
   next = c.requires.next;
-  unlike = unlike (g.R.Rig.means c.args.rig.now) c.args.rows.now c.args.taken c.args.state c.is-dead.result c.in-default.ensures c.is-dead.ensures c.if-is-dead.false;
+  unlike = unlike (g.R.Rig.means c.args.rig.now) c.args.rows.now c.args.taken c.args.state c.is_dead.result c.in_default.ensures c.is_dead.ensures c.if-is_dead.false;
   free = subst (λ k. c.args.taken < k) c.usable.ensures c.if-taken-usable.false;
   granted = omega (arith, c.if-left-eq0.false);
-  opens = (some_decides (in_set c.all-moves-untried.result.held) most_moves).1 (0, omega arith, c.all-moves-untried.ensures.some);
-  all = c.all-moves-untried.ensures.all;
+  opens = (some_decides (in_set c.all_moves-untried.result.held) most_moves).1 (0, omega arith, c.all_moves-untried.ensures.some);
+  all = c.all_moves-untried.ensures.all;
 }

@@ -8,27 +8,27 @@ use Rattle.sheets.specs.SheetLines.{head_column}
 use Rattle.sheets.proofs.SheetReads.{head_bad, head_read}
 use Rattle.sheets.proofs.lines.read_head.Goals as goal
 
-pub returns-in-err-frame : goal.returns-in-err-frame
-returns-in-err-frame c =
-    let p = err_from_is_err_and c.from-residual.result c.from-residual.ensures.1 in
-    rw (p.1, p.2) (next_fails 1 head_column c.args.bytes.now 1 c.in-err-frame.field-0.0 c.requires c.in-err-frame.ensures)
+pub returns-in_err-frame : goal.returns-in_err-frame
+returns-in_err-frame c =
+    let p = err_from_is_err_and c.from_residual.result c.from_residual.ensures.1 in
+    rw (p.1, p.2) (next_fails 1 head_column c.args.bytes.now 1 c.in_err-frame.field-0.0 c.requires c.in_err-frame.ensures)
 
-pub returns-in-default : goal.returns-in-default
-returns-in-default c =
-    other_frame 1 head_column c.args.bytes.now 1 c.in-ok-frame.frame c.in-ok-frame.after.now c.in-ok-frame.ensures (not_kind 1 c.in-ok-frame.frame c.in-default.not-SheetHead)
+pub returns-in_default : goal.returns-in_default
+returns-in_default c =
+    other_frame 1 head_column c.args.bytes.now 1 c.in_ok-frame.frame c.in_ok-frame.after.now c.in_ok-frame.ensures (not_kind 1 c.in_ok-frame.frame c.in_default.not-SheetHead)
 
 pub returns-then-column-gt0 : goal.returns-then-column-gt0
 returns-then-column-gt0 c =
     let bytes = c.args.bytes.now in
-    let after = c.in-ok-frame.after.now in
-    let read = subst (λ (f : Frame). FrameRead bytes f after) c.in-SheetHead.is c.in-ok-frame.ensures in
-    head_bad bytes c.in-SheetHead.body after c.number-at-banks.result c.number-at-settle.result c.head-fault-column.result read
-    c.number-at-banks.ensures.read c.number-at-settle.ensures.read c.head-fault-column.ensures c.if-column-gt0.true
+    let after = c.in_ok-frame.after.now in
+    let read = subst (λ (f : Frame). FrameRead bytes f after) c.in-SheetHead.is c.in_ok-frame.ensures in
+    head_bad bytes c.in-SheetHead.body after c.number_at-banks.result c.number_at-settle.result c.head_fault-column.result read
+    c.number_at-banks.ensures.read c.number_at-settle.ensures.read c.head_fault-column.ensures c.if-column-gt0.true
 
 pub returns : goal.returns
 returns c =
     let bytes = c.args.bytes.now in
-    let after = c.in-ok-frame.after.now in
-    let read = subst (λ (f : Frame). FrameRead bytes f after) c.in-SheetHead.is c.in-ok-frame.ensures in
-    head_read bytes c.in-SheetHead.body after c.number-at-banks.result c.number-at-settle.result c.head-fault-column.result read
-    c.number-at-banks.ensures.read c.number-at-settle.ensures.read c.head-fault-column.ensures c.if-column-gt0.false
+    let after = c.in_ok-frame.after.now in
+    let read = subst (λ (f : Frame). FrameRead bytes f after) c.in-SheetHead.is c.in_ok-frame.ensures in
+    head_read bytes c.in-SheetHead.body after c.number_at-banks.result c.number_at-settle.result c.head_fault-column.result read
+    c.number_at-banks.ensures.read c.number_at-settle.ensures.read c.head_fault-column.ensures c.if-column-gt0.false

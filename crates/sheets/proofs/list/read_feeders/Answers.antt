@@ -12,33 +12,33 @@ use Rattle.sheets.proofs.list.read_feeders.Goals as goal
 pub loop-next-init : goal.loop-next-init
 loop-next-init c = (no_feeders c.args.banks c.args.bytes.now _, refl)
 
-pub read-next-requires : goal.read-next-requires
-read-next-requires c =
+pub read_next-requires : goal.read_next-requires
+read_next-requires c =
     let s = rest_short c.args.bytes.now (feeder_lines c.loop-next.feeders c.loop-next.count) c.loop-next.rest.now c.loop-next.invariant.0.text in
     record { size = omega (arith, s, c.requires); room = c.loop-next.invariant.0.room }
 
-pub returns-in-err-next : goal.returns-in-err-next
-returns-in-err-next c =
-    let p = err_from_is_err_and c.from-residual.result c.from-residual.ensures.1 in
+pub returns-in_err-next : goal.returns-in_err-next
+returns-in_err-next c =
+    let p = err_from_is_err_and c.from_residual.result c.from_residual.ensures.1 in
     rw (p.1, p.2)
     (record {
       n = c.loop-next.count;
       fs = c.loop-next.feeders;
       rest = c.loop-next.rest.now;
       good = c.loop-next.invariant.0;
-      bad = bad_line c.in-err-next.ensures;
+      bad = bad_line c.in_err-next.ensures;
     })
 
-pub returns-then-has-number : goal.returns-then-has-number
-returns-then-has-number c =
-    let h = c.has-number.ensures.0 c.if-has-number.true in
-    let read = subst (λ (o : Option Feeder). NextRead c.args.banks c.loop-next.count c.loop-next.rest.now o c.in-ok-next.after.now) c.in-Some.is c.in-ok-next.ensures in
+pub returns-then-has_number : goal.returns-then-has_number
+returns-then-has_number c =
+    let h = c.has_number.ensures.0 c.if-has_number.true in
+    let read = subst (λ (o : Option Feeder). NextRead c.args.banks c.loop-next.count c.loop-next.rest.now o c.in_ok-next.after.now) c.in-Some.is c.in_ok-next.ensures in
     record {
       n = c.loop-next.count;
       fs = c.loop-next.feeders;
       rest = c.loop-next.rest.now;
       good = c.loop-next.invariant.0;
-      bad = repeated c.in-Some.feeder c.in-ok-next.after.now h.0 read h.1 h.2 (ap repeated_feeder c.line_behind.ensures);
+      bad = repeated c.in-Some.feeder c.in_ok-next.after.now h.0 read h.1 h.2 (ap repeated_feeder c.line_behind.ensures);
     }
 
 pub loop-next-preserved : goal.loop-next-preserved
@@ -46,8 +46,8 @@ loop-next-preserved c =
     let fs = c.loop-next.feeders in
     let n = c.loop-next.count in
     let f = c.in-Some.feeder in
-    let read = subst (λ (o : Option Feeder). NextRead c.args.banks n c.loop-next.rest.now o c.in-ok-next.after.now) c.in-Some.is c.in-ok-next.ensures in (
-      one_feeder_more c.args.banks c.args.bytes.now fs n c.loop-next.rest.now f c.in-ok-next.after.now c.loop-next.invariant.0 (omega (arith, read.0, c.loop-next.invariant.1)) read.0 read.1
-          (not_from_Decides c.has-number.result c.has-number.ensures c.if-has-number.false) read.2,
+    let read = subst (λ (o : Option Feeder). NextRead c.args.banks n c.loop-next.rest.now o c.in_ok-next.after.now) c.in-Some.is c.in_ok-next.ensures in (
+      one_feeder_more c.args.banks c.args.bytes.now fs n c.loop-next.rest.now f c.in_ok-next.after.now c.loop-next.invariant.0 (omega (arith, read.0, c.loop-next.invariant.1)) read.0 read.1
+          (not_from_Decides c.has_number.result c.has_number.ensures c.if-has_number.false) read.2,
       length-set fs n f ∙ c.loop-next.invariant.1,
     )

@@ -20,45 +20,45 @@ only_fault bytes r f s g = one_first_fault bytes s r g f
 only_sheet : (bytes : List ℕ) (s : Sheet) → bytes ≡ sheet_text s → OnlySheet bytes s
 only_sheet bytes s e = record { one = λ t d. one_sheet bytes s t e d; faultless = sheet_no_fault bytes s e }
 
-pub returns-then-bytes-gt-MOST-BYTES : goal.returns-then-bytes-gt-MOST-BYTES
-returns-then-bytes-gt-MOST-BYTES c =
-    let fault = too_long c.if-bytes-gt-MOST-BYTES.true refl in
+pub returns-then-bytes-gt-MOST_BYTES : goal.returns-then-bytes-gt-MOST_BYTES
+returns-then-bytes-gt-MOST_BYTES c =
+    let fault = too_long c.if-bytes-gt-MOST_BYTES.true refl in
     record { reply = fault; exact = refuted c.args.bytes.now _ fault; only = only_fault c.args.bytes.now _ fault }
 
-pub returns-in-err-head : goal.returns-in-err-head
-returns-in-err-head c =
-    let p = err_from_is_err_and c.from-residual.result c.from-residual.ensures.1 in
-    let fault = in_head (omega (arith, c.if-bytes-gt-MOST-BYTES.false)) c.in-err-head.ensures in
+pub returns-in_err-head : goal.returns-in_err-head
+returns-in_err-head c =
+    let p = err_from_is_err_and c.from_residual.result c.from_residual.ensures.1 in
+    let fault = in_head (omega (arith, c.if-bytes-gt-MOST_BYTES.false)) c.in_err-head.ensures in
     rw (p.1, p.2) (record { reply = fault; exact = refuted c.args.bytes.now _ fault; only = only_fault c.args.bytes.now _ fault })
 
-pub returns-in-err-panels : goal.returns-in-err-panels
-returns-in-err-panels c =
-    let p = err_from_is_err_and c.from-residual-in-err-panels.result c.from-residual-in-err-panels.ensures.1 in
-    let h = c.in-ok-head.head in
-    let e = c.in-ok-head.ensures in
-    let fault = in_bank h.banks h.settle c.in-ok-head.after.now (omega (arith, c.if-bytes-gt-MOST-BYTES.false)) e.0 e.1 c.in-err-panels.ensures in
+pub returns-in_err-panels : goal.returns-in_err-panels
+returns-in_err-panels c =
+    let p = err_from_is_err_and c.from_residual-in_err-panels.result c.from_residual-in_err-panels.ensures.1 in
+    let h = c.in_ok-head.head in
+    let e = c.in_ok-head.ensures in
+    let fault = in_bank h.banks h.settle c.in_ok-head.after.now (omega (arith, c.if-bytes-gt-MOST_BYTES.false)) e.0 e.1 c.in_err-panels.ensures in
     rw (p.1, p.2) (record { reply = fault; exact = refuted c.args.bytes.now _ fault; only = only_fault c.args.bytes.now _ fault })
 
-pub read-list-requires : goal.read-list-requires
-read-list-requires c =
-    let h = c.in-ok-head.head in
-    let a = rest_short c.args.bytes.now (head_line h.banks h.settle) c.in-ok-head.after.now c.in-ok-head.ensures.1 in
-    let b = rest_short c.in-ok-head.after.now (bank_lines c.in-ok-panels.panels h.banks) c.in-ok-panels.rest.now c.in-ok-panels.ensures.text in
-    omega (arith, a, b, c.if-bytes-gt-MOST-BYTES.false)
+pub read_list-requires : goal.read_list-requires
+read_list-requires c =
+    let h = c.in_ok-head.head in
+    let a = rest_short c.args.bytes.now (head_line h.banks h.settle) c.in_ok-head.after.now c.in_ok-head.ensures.1 in
+    let b = rest_short c.in_ok-head.after.now (bank_lines c.in_ok-panels.panels h.banks) c.in_ok-panels.rest.now c.in_ok-panels.ensures.text in
+    omega (arith, a, b, c.if-bytes-gt-MOST_BYTES.false)
 
-pub returns-in-err-list : goal.returns-in-err-list
-returns-in-err-list c =
-    let p = err_from_is_err_and c.from-residual-in-err-list.result c.from-residual-in-err-list.ensures.1 in
-    let h = c.in-ok-head.head in
-    let e = c.in-ok-head.ensures in
-    let read = c.in-ok-panels.ensures in
-    let front : FrontRead c.args.bytes.now h.banks h.settle c.in-ok-panels.panels c.in-ok-panels.rest.now = record {
-      size = omega (arith, c.if-bytes-gt-MOST-BYTES.false);
+pub returns-in_err-list : goal.returns-in_err-list
+returns-in_err-list c =
+    let p = err_from_is_err_and c.from_residual-in_err-list.result c.from_residual-in_err-list.ensures.1 in
+    let h = c.in_ok-head.head in
+    let e = c.in_ok-head.ensures in
+    let read = c.in_ok-panels.ensures in
+    let front : FrontRead c.args.bytes.now h.banks h.settle c.in_ok-panels.panels c.in_ok-panels.rest.now = record {
+      size = omega (arith, c.if-bytes-gt-MOST_BYTES.false);
       head = e.0;
       each = read.within;
       text = e.1 ∙ ap (λ (xs : List ℕ). head_line h.banks h.settle ++ xs) read.text;
     } in
-    let fault = in_feeders h.banks h.settle c.in-ok-panels.panels c.in-ok-panels.rest.now front c.in-err-list.ensures in
+    let fault = in_feeders h.banks h.settle c.in_ok-panels.panels c.in_ok-panels.rest.now front c.in_err-list.ensures in
     rw (p.1, p.2) (record { reply = fault; exact = refuted c.args.bytes.now _ fault; only = only_fault c.args.bytes.now _ fault })
 
 pub returns : goal.returns

@@ -7,9 +7,9 @@ pub returns : goal.returns
 returns c =
     let t = c.args.self.now.table in
     let s = c.args.s.now in
-    let same = c.is-hopeless.ensures.value in
+    let same = c.is_hopeless.ensures.value in
     record {
       value = same;
-      never = c.is-hopeless.ensures.never;
+      never = c.is_hopeless.ensures.never;
       ends = λ p e. (laws t).hopeless_ends s ((proper_decides t s).1 p) (sym same ∙ e);
     }

@@ -8,9 +8,9 @@ pub returns : goal.returns
 returns c =
     let t = c.args.self.now.table in
     let s = c.args.s.now in
-    let same = c.is-hopeless.ensures.value in
+    let same = c.is_hopeless.ensures.value in
     record {
       value = same;
-      never = c.is-hopeless.ensures.never;
+      never = c.is_hopeless.ensures.never;
       ends = λ p e. (plain_laws t).hopeless_ends s ((ages_proper_decides t (plain_age s)).1 p) (sym same ∙ e);
     }

@@ -10,16 +10,16 @@ use Rattle.rounds.specs.Record.RecordFault.{no_round}
 use Rattle.rounds.proofs.Gaps.{decides_keeps}
 use Rattle.rounds.proofs.record.RoundRecord.fill.Goals as goal
 
-pub returns-in-err-check-list : goal.returns-in-err-check-list
-returns-in-err-check-list c =
-    let p = err_from_is_err_and c.from-residual.result c.from-residual.ensures.1 in
+pub returns-in_err-check_list : goal.returns-in_err-check_list
+returns-in_err-check_list c =
+    let p = err_from_is_err_and c.from_residual.result c.from_residual.ensures.1 in
     let same = c.new-reader.ensures in
-    let w = c.in-err-check-list in
+    let w = c.in_err-check_list in
     let bad = subst (λ (t : BankTable). ListFault (panelled t) c.args.list.now (told w.field-0.0)) same w.ensures.reply in
     let no : Decides false (MakesRecord c.args.table c.args.list.now) =
     (λ e. absurd (false≢true e), λ m. absurd (false≢true (w.ensures.exact.1 (subst (λ (t : BankTable). LawfulForEver (panelled t) c.args.list.now) (sym same) m.kept)))) in
     rw (p.1, p.2) (record {
-      reply = (no_round c.if-list-gt-MOST-DWELLS.false bad, refl);
+      reply = (no_round c.if-list-gt-MOST_DWELLS.false bad, refl);
       exact = no;
       regular = decides_keeps c.args.table c.args.list.now false no;
     })

@@ -9,27 +9,27 @@ pub returns-then-out-needed : goal.returns-then-out-needed
 returns-then-out-needed g c =
     let book = c.args.self.now in
     let out = c.args.out.now in
-    let k = c.path-length-needed.result + 1 in
+    let k = c.path_length-needed.result + 1 in
     let long = length_push (path_moves book.rows.now (c.in-Round.from + 1) book.taken) c.in-Round.last in
-    let is : k ≡ length (round_moves book.rows.now book.taken c.in-Round.from c.in-Round.last) = omega (arith, c.path-length-needed.ensures.value, long) in
+    let is : k ≡ length (round_moves book.rows.now book.taken c.in-Round.from c.in-Round.last) = omega (arith, c.path_length-needed.ensures.value, long) in
     subst (λ st. Copied book.rows.now book.taken st out (Err (Short k)) out) (sym c.in-Round.is) (omega (arith, c.if-out-needed.true), ap Short is, refl)
 
-pub write-round-requires : goal.write-round-requires
-write-round-requires g c =
+pub write_round-requires : goal.write_round-requires
+write_round-requires g c =
     let book = c.args.self.now in
     let long = length_push (path_moves book.rows.now (c.in-Round.from + 1) book.taken) c.in-Round.last in
     record {
       within = omega (arith, book.within);
       begins = book.begins c.in-Round.from c.in-Round.last c.in-Round.is;
-      room = omega (arith, c.path-length-needed.ensures.value, long, c.if-out-needed.false);
+      room = omega (arith, c.path_length-needed.ensures.value, long, c.if-out-needed.false);
     }
 
 pub returns : goal.returns
 returns g c =
     let book = c.args.self.now in
     let out = c.args.out.now in
-    let k = c.path-length-needed.result + 1 in
+    let k = c.path_length-needed.result + 1 in
     let round = round_moves book.rows.now book.taken c.in-Round.from c.in-Round.last in
     let long = length_push (path_moves book.rows.now (c.in-Round.from + 1) book.taken) c.in-Round.last in
-    let is : k ≡ length round = omega (arith, c.path-length-needed.ensures.value, long) in
-    subst (λ st. Copied book.rows.now book.taken st out (Ok k) c.write-round.new.out) (sym c.in-Round.is) (is, omega (arith, c.if-out-needed.false), c.write-round.ensures ∙ ap (λ n. round ++ drop n out) (sym is))
+    let is : k ≡ length round = omega (arith, c.path_length-needed.ensures.value, long) in
+    subst (λ st. Copied book.rows.now book.taken st out (Ok k) c.write_round.new.out) (sym c.in-Round.is) (is, omega (arith, c.if-out-needed.false), c.write_round.ensures ∙ ap (λ n. round ++ drop n out) (sym is))

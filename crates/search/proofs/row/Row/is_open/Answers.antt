@@ -4,4 +4,4 @@ use Rattle.search.proofs.Sets.{lowest_some}
 use Rattle.search.proofs.row.Row.is_open.Goals as goal
 
 pub returns : goal.returns
-returns g c = c.is-some.ensures ∙ lowest_some (in_set c.args.self.now.untried.held) c.lowest.result c.lowest.ensures
+returns g c = c.is_some.ensures ∙ lowest_some (in_set c.args.self.now.untried.held) c.lowest.result c.lowest.ensures

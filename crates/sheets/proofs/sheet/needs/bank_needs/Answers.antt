@@ -6,8 +6,8 @@ use Rattle.sheets.proofs.sheet.needs.bank_needs.Goals.{then-feeder-bank, else-fe
 pub loop-k-init : goal.loop-k-init
 loop-k-init c = needs_none c.args.sheet.now.feeders c.args.bank (get_or c.args.sheet.now.panels c.args.bank 0)
 
-pub with-feeder-needs-requires : goal.with-feeder-needs-requires
-with-feeder-needs-requires c =
+pub with_feeder-needs-requires : goal.with_feeder-needs-requires
+with_feeder-needs-requires c =
     let s = c.args.sheet.now in
     let few = needs_few s.feeders c.args.bank (get_or s.panels c.args.bank 0) c.loop-k.k c.loop-k.needs c.loop-k.invariant in
     omega (arith, few, c.loop-k-test.true, s.room)
@@ -24,8 +24,8 @@ loop-k-preserved c =
           let reading = (s.readings k c.loop-k-test.true).0 in
           let swap = (s.swaps k c.loop-k-test.true).1 in
           subst (NeedsTo s.feeders bank panel (k + 1)) (sym w.needs-is)
-          (needs_more s.feeders bank panel k c.loop-k.needs w.with-feeder-needs.result room w.if-feeder-bank.true reading (omega (arith, reading, swap))
-          w.with-feeder-needs.ensures c.loop-k.invariant)
+          (needs_more s.feeders bank panel k c.loop-k.needs w.with_feeder-needs.result room w.if-feeder-bank.true reading (omega (arith, reading, swap))
+          w.with_feeder-needs.ensures c.loop-k.invariant)
       | else-feeder-bank w ↦
           subst (NeedsTo s.feeders bank panel (k + 1)) (sym w.needs-is) (needs_other s.feeders bank panel k c.loop-k.needs room w.if-feeder-bank.false c.loop-k.invariant)
     ]
