@@ -1,5 +1,6 @@
 pub mod Below
 pub mod Spread
+pub mod SameBank
 pub mod Identical
 pub mod Makers
 pub mod OneTable

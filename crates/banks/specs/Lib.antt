@@ -3,3 +3,4 @@ pub mod Table
 pub mod Places
 pub mod Stored
 pub mod FromSheet
+pub mod Identity

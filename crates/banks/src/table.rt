@@ -1,5 +1,7 @@
 // A bank table: what the reader has to serve. The type carries the limits, so no table outside them exists.
 ghost use Rattle.std.specs.Prelude.{◌≡◌, ℕ, ◌-◌, ◌<◌, ◌≤◌, ◌∷◌, length, replicate, Decides, MatchOption, nat_eq};
+ghost use Rattle.banks.specs.Identity.{bank_eq, bank_eq_equiv};
+ghost use lib.Pointwise.{pointwise};
 ghost use Rattle.std.specs.Ordering.{on, eq_of_both};
 ghost use Rattle.banks.specs.Limits.{BankWithin, Empty, Places, WithinLimits, bank_at, most_dwell, most_gap, no_bank, stock_bank};
 ghost use Rattle.sheets.specs.Limits.{fewest_banks, most_banks, most_panel, most_settle};
@@ -23,7 +25,7 @@ pub struct Bank {
 }
 
 // Places without a bank hold zeros.
-#[derive(Clone, Copy, Eq)]
+#[derive(Clone, Copy)]
 pub struct BankTable {
     count: u8,
     settle: u16,
@@ -40,27 +42,37 @@ pub struct BankTable {
 
 // Banks are equal exactly when they are identical.
 impl PartialEq for Bank {
-    ghost eq = { eq_of_both (on (λ v. v.panel) nat_eq) (eq_of_both (on (λ v. v.dwell) nat_eq) (on (λ v. v.gap) nat_eq)) };
+    ghost eq = { bank_eq };
 
     ghost laws = { Keys.partial_equiv_from_equiv (Prim.search (comparing, rules)) };
 
-    fn eq(&self, other: &Bank) -> bool {
+    fn eq(&self, other: &Bank) -> bool
+        ensures value { result ≡ bank_eq self.now other.now }
+        ensures identical { Decides result (self.now ≡ other.now) }
+    {
         self.panel == other.panel && self.dwell == other.dwell && self.gap == other.gap
     }
 }
 
 // Tables are equal exactly when they are identical.
 impl PartialEq for BankTable {
-    ghost equals = { λ a b r. Decides r (a ≡ b) };
+    ghost eq = { eq_of_both (eq_of_both (on (λ t. t.count) nat_eq) (on (λ t. t.settle) nat_eq)) (on (λ t. t.banks) (pointwise bank_eq)) };
 
-    ghost laws = { Keys.partial_equiv_from_equiv (first_of (Prim.search (comparing, rules), Prim.grind (arith, Self.row.coded.inj))) };
+    ghost laws = { Keys.partial_equiv_from_equiv (Prim.search (comparing, rules, bank_eq_equiv)) };
 
-    fn eq(&self, other: &BankTable) -> bool {
+    fn eq(&self, other: &BankTable) -> bool
+        ensures value { result ≡ eq_of_both (eq_of_both (on (λ t. t.count) nat_eq) (on (λ t. t.settle) nat_eq)) (on (λ t. t.banks) (pointwise bank_eq)) self.now other.now }
+        ensures identical { Decides result (self.now ≡ other.now) }
+    {
         if self.count != other.count || self.settle != other.settle {
             return false;
         }
         self.banks == other.banks
     }
+}
+
+impl Eq for BankTable {
+    ghost laws = { Prim.search (comparing, rules, bank_eq_equiv) };
 }
 
 impl BankTable {
