@@ -1,7 +1,8 @@
 -- Lists of calls, call by call.
-use Rattle.std.proofs.Common.{◌≡◌, ℕ, ◌+◌, ◌-◌, ◌<◌, ◌≤◌, ◌⊎◌, List, [], ◌∷◌, ◌++◌, length, get_or, take, drop, set, Ok, Err, All, Result, sym, refl, ap, ◌∙◌, subst, inl, inr, ⊎_elim, arith, take-add}
+use Rattle.std.proofs.Common.{◌≡◌, ℕ, ◌+◌, ◌-◌, ◌<◌, ◌≤◌, ◌⊎◌, List, [], ◌∷◌, ◌++◌, length, get_or, take, drop, set, Some, Ok, Err, All, Result, sym, refl, ap, ◌∙◌, subst, inl, inr, ⊎_elim, arith, take-add}
 use borrow.Rule.Slice.PartMut.{put_mid}
 use Rattle.std.specs.List.{between}
+use Rattle.std.proofs.lemmas.List.Elements.{All-pop}
 use Rattle.std.proofs.lemmas.List.{drop-append-le, drop-drop, drop-set-lt, length-append, length-drop, length-set, length-take-le, nil_from_length, take_all, take-append-le, take_more, take_more_set}
 use Rattle.std.proofs.lemmas.Slice.{drop-put_mid, take-put_mid}
 use Rattle.std.proofs.lemmas.List.Sums.{fold_push, sum_by-cons, sum_by_more, sum_by_push, sum_by-take-le}
@@ -10,7 +11,6 @@ use Rattle.search.specs.declared.copy.Uncopied.{Uncopied}
 use Rattle.search.specs.declared.calls.Call.{Call}
 use Rattle.search.specs.declared.calls.Call.TheVariants.{Grant, Verdict, Copy, Wipe}
 use Rattle.search.specs.declared.calls.Reply.{Reply}
-use Rattle.search.specs.declared.calls.Reply.TheVariants as reply
 use Rattle.search.specs.declared.row.Row.{Row}
 use Rattle.search.specs.declared.step.Standing.{Standing}
 use Rattle.search.specs.declared.step.Standing.TheVariants.{Open, NoRound, Full, Round}
@@ -20,8 +20,7 @@ use Rattle.search.specs.Calls.{BookState, Brings, Did, Runs, buffer_of, buffers,
 use Rattle.search.proofs.Sound.{sound_fresh}
 
 all_unpush : {X : Type 0} (P : X → Type 0) (xs : List X) (x : X) → All P (xs ++ x ∷ []) → All P xs × P x
-all_unpush P [] x h = (tt, h.0)
-all_unpush P (y ∷ xs) x h = let rest = all_unpush P xs x h.1 in ((h.0, rest.0), rest.1)
+all_unpush P xs x h = All-pop P (xs ++ x ∷ []) xs (Some x) refl h
 
 copy_tells : (n : ℕ) (r : Result ℕ Uncopied) → next_told n (copy_reply r) ≡ n
 copy_tells n (Ok k) = refl

@@ -1,5 +1,5 @@
 -- What a book says where a grant ends.
-use Rattle.std.proofs.Common.{◌≡◌, ℕ, ◌+◌, ◌-◌, ◌<◌, ◌≤◌, true, ◌⊎◌, List, [], ◌∷◌, ◌++◌, map, length, get_or, take, drop, Some, None, All, Contains, filter, sym, refl, ap, ◌∙◌, subst, inl, inr, ⊎_elim, arith}
+use Rattle.std.proofs.Common.{◌≡◌, ℕ, ◌+◌, ◌-◌, ◌<◌, ◌≤◌, true, ◌⊎◌, List, [], ◌∷◌, ◌++◌, map, length, get_or, take, drop, Some, None, All, Contains, filter, sym, refl, ap, ◌∙◌, subst, inl, inr, ⊎_elim, not-suc-le-zero, arith}
 use Rattle.std.proofs.lemmas.List.Elements.{All-drop, All-from_get_or, All-contains, All-filter, All-map, filter-append}
 use Rattle.std.proofs.lemmas.List.{drop_more, get_or-map, get_or-take, length_push, length-take-le, map-append, map_push}
 use Rattle.std.proofs.lemmas.Slice.{between_is}
@@ -62,18 +62,20 @@ module _ {S : Type 0} (m : Meaning S) (laws : Laws m) (rows : List (Row S)) (n :
         (settled_at m laws rows n within kept k d low j (dead_tried r (dead k d (omega arith) low) j) can).known
 
     closed : Closed m (states rows n)
-    closed = record {
-      rest_lost = inr (subst (Contains (states rows n)) first (held_at m laws rows n within kept 0 d some));
-      moves_lost = All-map _ (λ (r : Row S). r.state) (take n rows) (All-from_get_or _ (take n rows) d (λ k low.
-          let inside : k < n = omega (arith, long) in
-          subst (λ (r : Row S). (j : ℕ) → lawful m r.state j ≡ true → (m.hopeless (after m r.state j) ≡ true) ⊎ ((h : S) × Contains (states rows n) h × (m.covers h (after m r.state j) ≡ true))) (sym (get_or-take n rows k d inside)) (lost k inside)));
-    }
+    closed =
+        let MovesLost : S → Type 0 = λ s. (j : ℕ) → lawful m s j ≡ true → (m.hopeless (after m s j) ≡ true) ⊎ ((h : S) × Contains (states rows n) h × (m.covers h (after m s j) ≡ true)) in
+        record {
+          rest_lost = inr (subst (Contains (states rows n)) first (held_at m laws rows n within kept 0 d some));
+          moves_lost = All-map MovesLost (λ (r : Row S). r.state) (take n rows) (All-from_get_or (λ (r : Row S). MovesLost r.state) (take n rows) d (λ k low.
+              let inside : k < n = omega (arith, long) in
+              subst (λ (r : Row S). MovesLost r.state) (sym (get_or-take n rows k d inside)) (lost k inside)));
+        }
 
   -- no row is taken, and rest is hopeless
   rest_hopeless : n ≡ 0 → m.hopeless m.rest ≡ true → NoEndless m m.rest × Closed m (states rows n)
   rest_hopeless none h = (
     laws.hopeless_ends m.rest laws.rest_proper h,
-    subst (Closed m) (sym (ap (states rows) none)) (record { rest_lost = inl h; moves_lost = tt }),
+    subst (Closed m) (sym (ap (states rows) none)) (record { rest_lost = inl h; moves_lost = λ k d low. absurd (not-suc-le-zero low) }),
   )
 
   -- the state after the last move covers one on the path

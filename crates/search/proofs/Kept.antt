@@ -1,7 +1,7 @@
 -- Each step of a search keeps what the book keeps.
-use Rattle.std.proofs.Common.{◌≡◌, ℕ, ◌+◌, ◌-◌, ◌<◌, ◌≤◌, true, false, not, eqb, ◌⊎◌, List, [], ◌∷◌, ◌++◌, map, length, get_or, take, set, All, Contains, filter, sym, ap, ◌∙◌, subst, ap₂, inl, inr, ⊎_elim, arith}
+use Rattle.std.proofs.Common.{◌≡◌, ℕ, ◌+◌, ◌-◌, ◌<◌, ◌≤◌, true, false, not, eqb, List, [], ◌∷◌, ◌++◌, map, length, get_or, take, set, All, Contains, filter, sym, ap, ◌∙◌, subst, ap₂, inl, inr, ⊎_elim, arith}
 use lib.Seq.{take-set-lt}
-use Rattle.std.proofs.lemmas.List.Elements.{All-get_or, All-push, All-set, All-weaker, Contains-append_left, Contains-get_or, filter-append}
+use Rattle.std.proofs.lemmas.List.Elements.{All-get_or, All-push, All-set, All-weaker, Contains-append_left, Contains-get_or, at_from_Contains, filter-append}
 use Rattle.std.proofs.lemmas.List.{append-nil, get_or_append_left, get_or_default, get_or-map, get_or_push, get_or-take, length-map, length_push, length-set, length-take-le, map_push, map-set, nil_from_length, set-get_or, take_more_set}
 use Rattle.std.proofs.lemmas.Bool.{and_cases, and_from, both_ways, cases_Bool, cases_lt, cond_both, cond-true, eqb-true, lt-ltb, not-false}
 use Rattle.rig.specs.Meaning.{Meaning, lawful, after}
@@ -84,7 +84,8 @@ module _ {S : Type 0} (m : Meaning S) (laws : Laws m) (rows : List (Row S)) (n :
 
   -- and if it covers none on the path and is not dead, it is new
   pub unlike_new : (s : S) → m.proper s ≡ true → Unlike m rows n s → Contains (states rows n) s → ⊥
-  unlike_new s proper unlike h =
+  unlike_new s proper unlike has =
+      let h = at_from_Contains (states rows n) s has in
       let state : Row S → S = λ r. r.state in
       let xs = take n rows in
       let low : h.0 < n = omega (arith, h.1, length-map xs state, long) in

@@ -1,12 +1,14 @@
 -- What a book keeps, from making it to the end of a grant.
 use Rattle.std.proofs.Common.{◌≡◌, ℕ, ◌+◌, ◌≤◌, List, [], length, take, set, sym, refl, subst, not-suc-le-zero}
+use Rattle.std.proofs.lemmas.List.Elements.{All-nil}
 use Rattle.rig.specs.Meaning.{Meaning}
 use Rattle.rig.specs.Laws.{Laws}
 use Rattle.search.specs.declared.row.Row.{Row}
 use Rattle.search.specs.declared.step.Standing.{Standing}
 use Rattle.search.specs.declared.step.Standing.TheVariants.{Open}
 use Rattle.search.specs.Steps.{Ends, Settles, Takes}
-use Rattle.search.specs.Kept.{Kept, Sound}
+use Rattle.search.specs.Promises.{Reached}
+use Rattle.search.specs.Kept.{Kept, Settled, Sound}
 use Rattle.search.proofs.Reach.{reached_rest}
 use Rattle.search.proofs.Kept.{settle_kept, take_kept}
 use Rattle.search.proofs.Ends.{ends_says}
@@ -15,9 +17,9 @@ module _ {S : Type 0} (m : Meaning S) where
   kept_none : Kept m []
   kept_none = record {
     different = λ i k d less within same. absurd (not-suc-le-zero within);
-    reached = tt;
+    reached = All-nil (Reached m);
     begins = λ d some. absurd (not-suc-le-zero some);
-    settled = tt;
+    settled = All-nil (Settled m []);
     path = tt;
   }
 

@@ -1,5 +1,6 @@
 -- Lawful walks, and the moves that lead along them.
 use Rattle.std.proofs.Common.{◌≡◌, ℕ, zero, suc, ◌<◌, true, List, [], ◌∷◌, ◌++◌, map, length, get_or, All, Contains, sym, refl, ◌∙◌, subst, not-suc-le-zero, arith}
+use Rattle.std.proofs.lemmas.List.Elements.{All-head, All-tail}
 use Rattle.rig.specs.Meaning.{Meaning, lawful, after}
 use Rattle.rig.specs.Orders.{reached}
 use Rattle.rig.specs.Checks.{LapRan, list_order}
@@ -73,6 +74,7 @@ module _ {S : Type 0} (m : Meaning S) where
     pub trip_linked : (s : S) (qs : List (S × ℕ)) (j : ℕ) → Contains held s → All (λ q. Contains held q.0) qs → Linked m s qs → lawful m (last_state s qs) j ≡ true → Trip held s (map (λ q. q.1) qs ++ j ∷ []) (after m (last_state s qs) j)
     trip_linked s [] j begins all h can = trip_front s j [] (after m s j) begins can (trip_none (after m s j))
     trip_linked s (q ∷ qs) j begins all h can =
+        let P : S × ℕ → Type 0 = λ p. Contains held p.0 in
         let t = after m (last_state q.0 qs) j in
         let ws = map (λ p. p.1) qs ++ j ∷ [] in
-        trip_front s q.1 ws t begins h.0 (subst (λ x. Trip held x ws t) h.1 (trip_linked q.0 qs j all.0 all.1 h.2 can))
+        trip_front s q.1 ws t begins h.0 (subst (λ x. Trip held x ws t) h.1 (trip_linked q.0 qs j (All-head P q qs all) (All-tail P q qs all) h.2 can))
