@@ -76,6 +76,7 @@ fn some_overdue(table: &BankTable, deadlines: [u32; MOST_BANKS]) -> bool
 
 // Whether the state with these ages is hopeless: no order of all banks meets the deadlines. Otherwise some order does.
 pub fn is_hopeless(table: &BankTable, ages: &[u16; MOST_BANKS]) -> bool
+    ensures value { result ≡ some_overrun table.now (deadline table.now (age_at ages.now)) }
     ensures over { Decides result (Hopeless table.now (deadline table.now (age_at ages.now))) }
     ensures never { Decides result (NoneMeets table.now (deadline table.now (age_at ages.now))) }
     ensures order { result ≡ false → SomeMeets table.now (deadline table.now (age_at ages.now)) }

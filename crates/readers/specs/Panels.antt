@@ -1,7 +1,9 @@
 -- Last panels: what their tests tell, and what settling costs.
-use Rattle.std.specs.Prelude.{◌≡◌, ℕ, ◌+◌, ◌<◌, ◌≤◌, Bool, true, false, cond, ◌⊎◌, Some, None, Decides, Option, MatchOption, ◌≢◌, refl}
+use Rattle.std.specs.Prelude.{◌≡◌, ℕ, ◌+◌, ◌<◌, ◌≤◌, Bool, true, false, cond, nat_eq, ◌⊎◌, Some, None, Decides, Option, MatchOption, ◌≢◌, refl}
 use Rattle.std.proofs.Common.{subst, sym, ap, inl, inr, ⊎_elim, arith}
-use Rattle.std.proofs.lemmas.Bool.{leb-true, le-leb, eqb-true, eq-eqb, ne_eqb, both_ways}
+use Rattle.std.proofs.lemmas.Bool.{leb-true, le-leb, eqb-true, eq-eqb, ne_eqb, both_ways, false≢true}
+use Rattle.std.proofs.lemmas.Bool.Decides.{Decides-eqb}
+use Rattle.std.specs.Option.{option_eq}
 use Rattle.sheets.specs.Limits.{most_panel}
 use Rattle.readers.specs.Panelled.{panel_proper, panel_covers, settled, one_if_some}
 
@@ -50,8 +52,8 @@ one_tight a None (inl e) h = inl refl
 one_tight a (Some p) (inl e) h = let z : one_if_some a ≡ 0 = ap one_if_some e in absurd (omega arith)
 
 -- what `==` answers at last panels
-pub same_last_decides : (a b : Option ℕ) (r : Bool) → MatchOption a (MatchOption b (r ≡ true) (λ _. r ≡ false)) (λ p. MatchOption b (r ≡ false) (λ q. Decides r (p ≡ q))) → Decides r (a ≡ b)
-same_last_decides None None r h = (λ _. refl, λ _. h)
-same_last_decides None (Some q) r h = (λ e. absurd (both_ways r h e), λ e. let z : ◌≡◌ {A = ℕ} 0 1 = cc in absurd (omega arith))
-same_last_decides (Some p) None r h = (λ e. absurd (both_ways r h e), λ e. let z : ◌≡◌ {A = ℕ} 0 1 = cc in absurd (omega arith))
-same_last_decides (Some p) (Some q) r h = (λ e. ap Some (h.0 e), λ e. h.1 (cc))
+pub same_last_decides : (a b : Option ℕ) → Decides (option_eq nat_eq a b) (a ≡ b)
+same_last_decides None None = (λ _. refl, λ _. refl)
+same_last_decides None (Some q) = (λ e. absurd (false≢true e), λ e. let z : ◌≡◌ {A = ℕ} 0 1 = cc in absurd (omega arith))
+same_last_decides (Some p) None = (λ e. absurd (false≢true e), λ e. let z : ◌≡◌ {A = ℕ} 0 1 = cc in absurd (omega arith))
+same_last_decides (Some p) (Some q) = (λ e. ap Some ((Decides-eqb p q).0 e), λ e. (Decides-eqb p q).1 (cc))

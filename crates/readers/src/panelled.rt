@@ -1,11 +1,14 @@
 // The panelled reader: one reader behind an aerial switch that settles when the panel changes.
-ghost use Rattle.std.specs.Prelude.{◌≡◌, ℕ, ◌<◌, true, Decides};
+ghost use Rattle.std.specs.Prelude.{◌≡◌, ℕ, ◌<◌, true, Decides, nat_eq};
 ghost use Rattle.rig.specs.Meaning.{after, choice, lawful};
 ghost use Rattle.rig.specs.Orders.{Endless, Order};
 ghost use Rattle.rig.specs.Sets.{in_set};
 ghost use Rattle.deadlines.specs.Deadlines.{DueFirst, NoneMeets, NoneUntried, deadline, some_overrun};
 ghost use Rattle.readers.specs.Panelled.{age, panel_covers, panel_proper, panelled, proper_state, settling, state_covers};
 ghost use Rattle.readers.specs.Rules.{Covers, Proper, TellsAfter, TellsLawful};
+ghost use lib.Pointwise.{pointwise};
+ghost use Rattle.std.specs.Option.{option_eq};
+ghost use Rattle.std.specs.Ordering.{on, eq_of_both};
 ghost use Rattle.std.specs.Cmp.Rules.{comparing};
 ghost use Rattle.std.proofs.Common.{rules};
 ghost use Rattle.std.specs.Cmp as Keys;
@@ -29,11 +32,14 @@ pub struct ReaderState {
 
 // States are equal exactly when they are identical.
 impl PartialEq for ReaderState {
-    ghost equals = { λ a b r. Decides r (a ≡ b) };
+    ghost eq = { eq_of_both (on (λ s. s.last) (option_eq nat_eq)) (on (λ s. s.ages) (pointwise nat_eq)) };
 
     ghost laws = { Keys.partial_equiv_from_equiv (Prim.search (comparing, rules)) };
 
-    fn eq(&self, other: &ReaderState) -> bool {
+    fn eq(&self, other: &ReaderState) -> bool
+        ensures value { result ≡ eq_of_both (on (λ s. s.last) (option_eq nat_eq)) (on (λ s. s.ages) (pointwise nat_eq)) self.now other.now }
+        ensures identical { Decides result (self.now ≡ other.now) }
+    {
         self.last == other.last && self.ages == other.ages
     }
 }

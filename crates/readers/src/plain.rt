@@ -1,11 +1,13 @@
 // The plain reader: one reader whose aerial needs no settling.
-ghost use Rattle.std.specs.Prelude.{◌≡◌, ℕ, ◌<◌, true, Decides};
+ghost use Rattle.std.specs.Prelude.{◌≡◌, ℕ, ◌<◌, true, Decides, nat_eq};
 ghost use Rattle.rig.specs.Meaning.{after, choice, lawful};
 ghost use Rattle.rig.specs.Orders.{Endless, Order};
 ghost use Rattle.rig.specs.Sets.{in_set};
 ghost use Rattle.deadlines.specs.Deadlines.{DueFirst, NoneMeets, NoneUntried, deadline, some_overrun};
 ghost use Rattle.readers.specs.Ages.{AgesCover, AgesProper, ages_cover, ages_proper};
 ghost use Rattle.readers.specs.Plain.{PlainAfter, PlainLawful, plain, plain_age};
+ghost use lib.Pointwise.{pointwise};
+ghost use Rattle.std.specs.Ordering.{on};
 ghost use Rattle.std.specs.Cmp.Rules.{comparing};
 ghost use Rattle.std.proofs.Common.{rules};
 ghost use Rattle.std.specs.Cmp as Keys;
@@ -26,11 +28,14 @@ pub struct PlainState {
 
 // States are equal exactly when they are identical.
 impl PartialEq for PlainState {
-    ghost equals = { λ a b r. Decides r (a ≡ b) };
+    ghost eq = { on (λ s. s.ages) (pointwise nat_eq) };
 
     ghost laws = { Keys.partial_equiv_from_equiv (Prim.search (comparing, rules)) };
 
-    fn eq(&self, other: &PlainState) -> bool {
+    fn eq(&self, other: &PlainState) -> bool
+        ensures value { result ≡ on (λ s. s.ages) (pointwise nat_eq) self.now other.now }
+        ensures identical { Decides result (self.now ≡ other.now) }
+    {
         self.ages == other.ages
     }
 }

@@ -5,8 +5,8 @@ use Rattle.banks.specs.Table.{gap}
 use Rattle.banks.proofs.Below.{every_decides, every_fails}
 use Rattle.readers.proofs.ages.ages_proper.Goals as goal
 
-pub returns-then-age_at : goal.returns-then-age_at
-returns-then-age_at c =
+pub returns-then-age-at : goal.returns-then-age-at
+returns-then-age-at c =
     sym (every_fails (age_at c.args.ages.now) (gap c.args.table.now) most_banks c.loop-i.i (omega arith) (search rules))
 
 pub returns : goal.returns
