@@ -4,17 +4,13 @@ use Rattle.readers.specs.Panelled.{panelled, rest_state}
 use Rattle.rounds.proofs.Stock.{stock_kept}
 use Rattle.rounds.proofs.record.RoundRecord.stock.Goals as goal
 
-pub invariant-of-result : goal.invariant-of-result
-invariant-of-result c =
+pub invariant_of-result : goal.invariant_of-result
+invariant_of-result c =
     let t = c.stock.result in
     let e = c.stock.ensures in
-    let kept = (stock_kept t e.count e.settle e.banks).endless in (
-      lit≤ tt,
-      (
-        lit≤ tt,
-        (
-          subst (λ (xs : List ℕ). Endless (panelled t) rest_state (again xs)) (sym c.padded-banks.ensures) kept,
-          tt,
-        ),
-      ),
-    )
+    let kept = (stock_kept t e.count e.settle e.banks).endless in
+    record {
+      some = lit≤ tt;
+      few = lit≤ tt;
+      kept = subst (λ (xs : List ℕ). Endless (panelled t) rest_state (again xs)) (sym c.padded-banks.ensures) kept;
+    }
