@@ -1,5 +1,6 @@
 -- Every worked case is established, by its tests.
-use Rattle.std.proofs.Common.{◌≡◌, Bool, true, All, refl}
+use Rattle.std.proofs.Common.{◌≡◌, Bool, true, List, ◌∷◌, All, refl}
+use Rattle.std.proofs.lemmas.List.Elements.{All-cons, All-nil}
 use Rattle.rig.specs.Orders.{reached}
 use Rattle.rig.specs.Sets.{some_below}
 use Rattle.banks.specs.declared.table.BankTable.{BankTable}
@@ -33,9 +34,9 @@ established c good h = record {
   holds = reader_true c.reader (table c.settle c.banks good) c.claim h;
 }
 
+next : {c : Case} (cs : List Case) → Established c → All Established cs → All Established (c ∷ cs)
+next {c} cs here rest = All-cons Established c cs here rest
+
 pub cases_hold : All Established worked_cases
 unfolding within reader_test table test reached every_below spread some_below sum_below
-cases_hold = (
-  established _ refl refl,
-  (established _ refl refl, (established _ refl refl, (established _ refl refl, (established _ refl refl, (established _ refl refl, (established _ refl refl, (established _ refl refl, tt))))))),
-)
+cases_hold = next _ (established _ refl refl) (next _ (established _ refl refl) (next _ (established _ refl refl) (next _ (established _ refl refl) (next _ (established _ refl refl) (next _ (established _ refl refl) (next _ (established _ refl refl) (next _ (established _ refl refl) (All-nil Established))))))))

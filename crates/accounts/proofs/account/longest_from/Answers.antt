@@ -3,7 +3,7 @@ use Rattle.rig.specs.Orders.{again}
 use Rattle.accounts.proofs.Repeats.{again_lap}
 use Rattle.accounts.proofs.Watch.{Watched, watched_none, watched_past, watched_on, watched_all}
 use Rattle.accounts.proofs.account.longest_from.Goals as goal
-use Rattle.accounts.proofs.account.longest_from.Goals.{then-bank-of_bank, else-bank-of_bank}
+use Rattle.accounts.proofs.account.longest_from.Goals.{then-bank_of-bank, else-bank_of-bank}
 
 pub loop-n-init : goal.loop-n-init
 loop-n-init c =
@@ -20,14 +20,14 @@ loop-n-preserved c =
     let old = l.invariant.0 in
     let settle = c.settling_before.ensures.value in
     let on = c.bank_of.ensures in
-    elim c.if-bank-of_bank.branch [
-      | then-bank-of_bank w ↦ (
-        watched_on t o c.args.bank c.args.first l.n l.since l.longest old _ _ (sym on ∙ w.if-bank-of_bank.true) w.since-is
+    elim c.if-bank_of-bank.branch [
+      | then-bank_of-bank w ↦ (
+        watched_on t o c.args.bank c.args.first l.n l.since l.longest old _ _ (sym on ∙ w.if-bank_of-bank.true) w.since-is
             (w.longest-is ∙ w.max-longest.ensures ∙ ap (λ (s : ℕ). max l.longest (l.since + s)) settle),
         omega (arith, w.since-is, l.invariant.1),
       )
-      | else-bank-of_bank w ↦ (
-        watched_past t o c.args.bank c.args.first l.n l.since l.longest old _ _ (λ e. w.if-bank-of_bank.false (on ∙ e))
+      | else-bank_of-bank w ↦ (
+        watched_past t o c.args.bank c.args.first l.n l.since l.longest old _ _ (λ e. w.if-bank_of-bank.false (on ∙ e))
             (omega (arith, w.since-is, settle, w.dwell_of.ensures.value)) w.longest-is,
         omega (arith, w.since-is, l.invariant.1, c.settling_before.ensures.few, w.dwell_of.ensures.few),
       )

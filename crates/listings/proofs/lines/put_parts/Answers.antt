@@ -6,7 +6,7 @@ use Rattle.listings.proofs.lines.put_parts.Goals as goal
 
 pub loop-part-init : goal.loop-part-init
 loop-part-init c =
-    let same = c.into_iter-part-iterator.ensures.into_iter-gives in
+    let same = c.into_iter-part-iterator.ensures.into_iter_gives in
     parts_none c.args.list.now c.args.out.now c.requires _ _ (ap chunks_rest same ∙ c.chunks-part-items.ensures.rest) (ap chunks_size same ∙ c.chunks-part-items.ensures.size)
 
 pub put_part-at-requires : goal.put_part-at-requires
