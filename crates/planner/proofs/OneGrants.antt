@@ -1,6 +1,7 @@
 -- One grant over the planner's rows.
 use Rattle.std.proofs.Common.{◌≡◌, ℕ, ◌≤◌, List, [], ◌∷◌, length, take, drop, Some, None, Ok, Option, Result, sym, refl, ap, ◌∙◌, subst, arith}
 use Rattle.std.proofs.lemmas.List.{length-drop, length-take}
+use Rattle.std.proofs.lemmas.List.Elements.{All-cons, All-nil}
 use Rattle.rig.specs.Meaning.{Meaning}
 use Rattle.rig.specs.Orders.{LawfulForEver}
 use Rattle.rig.specs.declared.verdict.Verdict.TheVariants as verdict
@@ -17,7 +18,7 @@ use Rattle.search.specs.declared.calls.Short.{Short}
 use Rattle.search.specs.declared.row.Row.{Row}
 use Rattle.search.specs.declared.step.Standing.{Standing}
 use Rattle.search.specs.declared.step.Standing.TheVariants.{Open, NoRound, Full, Round}
-use Rattle.search.specs.Calls.{LastCopied, book_state}
+use Rattle.search.specs.Calls.{Brings, LastCopied, book_state}
 use Rattle.search.specs.Grants.{verdict_of}
 use Rattle.search.specs.Promised.{Completed, Promised, Searched}
 use Rattle.planner.specs.Plans.{RunsOn, round_in}
@@ -36,7 +37,7 @@ module _ {S : Type 0} (rows : List (Row S)) (taken : ℕ) (out out' : List ℕ) 
 module _ {R S : Type 0} (means : R → Meaning S) (rig : R) (rows : List (Row S)) (replies : List Reply) (room : List ℕ) (rows' : List (Row S)) (replies' : List Reply) (room' : List ℕ) (many : length rows ≡ plan_rows) (room-is : length room ≡ plan_rows) where
   module _ (s : Sheet) (stock r : RoundRecord) (x : Outcome) (kept : length rows' ≡ length rows) (long : length room' ≡ length room) (serves : ServesSheet s (means rig)) (h : Completed means rows (one_grant_of rig) replies room rows' replies' room' x) where
     promised : Promised (means rig) plan_visits rows' (drop 0 room') x
-    promised = h.promised (means rig) (refl, tt)
+    promised = h.promised (means rig) (All-cons (Brings means (means rig)) _ [] refl (All-nil (Brings means (means rig))))
 
     -- the round that the search found makes a record
     makes : (t : BankTable) (n : ℕ) → TableOf s t → x.round ≡ Some n → MakesRecord t (round_in room' x n)

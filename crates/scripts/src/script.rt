@@ -65,10 +65,10 @@ impl<T: Drop> From<AllocFailed<T>> for ScriptFault {
 
 // What a line without its closing byte asks for; `rig` is read elsewhere.
 fn step_of(text: &[u8]) -> Result<Step, LineFault> {
-    if text == b"verdict" {
+    if text == b"verdict".as_slice() {
         return Ok(Step::Verdict);
     }
-    if text == b"wipe" {
+    if text == b"wipe".as_slice() {
         return Ok(Step::Wipe);
     }
     if let Some(digits) = text.strip_prefix(b"grant ") {
@@ -142,7 +142,7 @@ fn read_steps(
             });
         };
         at = end;
-        let read = if text == b"rig" {
+        let read = if text == b"rig".as_slice() {
             at = end_with(bytes, end, b"04");
             rig_of(&bytes[end..at], first)
         } else {

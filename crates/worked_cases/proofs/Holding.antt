@@ -1,5 +1,6 @@
 -- Every worked case is established, by its tests.
-use Rattle.std.proofs.Common.{◌≡◌, Bool, true, List, ◌∷◌, All, refl}
+use Rattle.std.proofs.Common.{◌≡◌, Bool, true, List, [], ◌∷◌, All, refl}
+use Rattle.std.specs.List.{AllByRecursion}
 use Rattle.std.proofs.lemmas.List.Elements.{All-cons, All-nil}
 use Rattle.rig.specs.Orders.{reached}
 use Rattle.rig.specs.Sets.{some_below}
@@ -34,9 +35,10 @@ established c good h = record {
   holds = reader_true c.reader (table c.settle c.banks good) c.claim h;
 }
 
-next : {c : Case} (cs : List Case) → Established c → All Established cs → All Established (c ∷ cs)
-next {c} cs here rest = All-cons Established c cs here rest
+one_by_one : (cs : List Case) → AllByRecursion Established cs → All Established cs
+one_by_one [] h = All-nil Established
+one_by_one (c ∷ cs) h = All-cons Established c cs h.0 (one_by_one cs h.1)
 
 pub cases_hold : All Established worked_cases
 unfolding within reader_test table test reached every_below spread some_below sum_below
-cases_hold = next _ (established _ refl refl) (next _ (established _ refl refl) (next _ (established _ refl refl) (next _ (established _ refl refl) (next _ (established _ refl refl) (next _ (established _ refl refl) (next _ (established _ refl refl) (next _ (established _ refl refl) (All-nil Established))))))))
+cases_hold = one_by_one worked_cases (established _ refl refl, (established _ refl refl, (established _ refl refl, (established _ refl refl, (established _ refl refl, (established _ refl refl, (established _ refl refl, (established _ refl refl, tt))))))))
