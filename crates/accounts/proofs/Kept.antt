@@ -1,5 +1,5 @@
 -- A round record's list, as a call hands it out, is lawful for ever.
-use Rattle.std.proofs.Common.{◌≡◌, ℕ, ◌+◌, ◌<◌, ◌≤◌, Bool, true, false, List, length, sym, refl, ap, ◌∙◌, subst, arith}
+use Rattle.std.proofs.Common.{◌≡◌, ℕ, ◌+◌, ◌≤◌, List, length, sym, subst, arith}
 use Rattle.rig.specs.Orders.{Endless, again, LawfulForEver}
 use Rattle.banks.specs.declared.table.BankTable.{BankTable}
 use Rattle.readers.specs.Panelled.{panelled, rest_state}

@@ -1,5 +1,5 @@
 -- Orders that repeat after so many dwells: the clock of a lap is that of the lap before, and so many ticks more.
-use Rattle.std.proofs.Common.{◌≡◌, ℕ, zero, suc, ◌+◌, ◌-◌, ◌*◌, ◌<◌, ◌≤◌, cond, eqb, List, length, get_or, sym, ap, ◌∙◌, ap₂, add-mul, add-one, arith}
+use Rattle.std.proofs.Common.{◌≡◌, ℕ, zero, suc, ◌+◌, ◌*◌, ◌<◌, ◌≤◌, cond, eqb, List, length, get_or, sym, ap, ◌∙◌, ap₂, add-mul, add-one, arith}
 use native.Mathlib.Nat.{add-mod_right}
 use Rattle.rig.specs.Orders.{Order, again}
 use Rattle.banks.specs.declared.table.BankTable.{BankTable}

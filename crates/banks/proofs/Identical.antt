@@ -1,8 +1,7 @@
 -- Tables are identical when their fields are.
-use Rattle.std.proofs.Common.{◌≡◌, ℕ, ◌<◌, ◌≤◌, Bool, true, List, length, get_or, Decides, refl, ap}
+use Rattle.std.proofs.Common.{◌≡◌, ℕ, ◌<◌, ◌≤◌, Bool, length, Decides, ap}
 use mathlib.Core.HLevel.{is_prop→PathP}
 use denote.Struct.Props.{props}
-use Rattle.banks.specs.declared.table.Bank.{Bank}
 use Rattle.banks.specs.declared.table.BankTable.{BankTable}
 use Rattle.banks.specs.Limits.{bank_at, most_dwell, most_gap}
 use Rattle.sheets.specs.Limits.{fewest_banks, most_banks, most_settle, most_panel}

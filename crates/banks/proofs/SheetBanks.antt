@@ -1,5 +1,5 @@
 -- The banks of a sheet, one by one, and that they are within the limits of a table.
-use Rattle.std.proofs.Common.{◌≡◌, ℕ, ◌+◌, ◌-◌, ◌<◌, ◌≤◌, ◌≢◌, List, length, set, replicate, sym, refl, ◌∙◌, subst, ⊎_elim, not-suc-le-zero, arith, length-set, below_more}
+use Rattle.std.proofs.Common.{◌≡◌, ℕ, ◌+◌, ◌<◌, ◌≤◌, ◌≢◌, List, length, set, replicate, sym, refl, ◌∙◌, subst, ⊎_elim, not-suc-le-zero, arith, length-set, below_more}
 use Rattle.std.proofs.lemmas.List.{ext_get_or, get_or-set_same, get_or-set_other}
 use Rattle.std.proofs.lemmas.Bool.{cases_lt}
 use Rattle.sheets.specs.declared.feeder.Feeder.{Feeder}

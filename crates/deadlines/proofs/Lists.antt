@@ -1,16 +1,12 @@
 -- Deadlines and dwells in lists with all places.
-use Rattle.std.proofs.Common.{◌≡◌, ℕ, ◌+◌, ◌<◌, ◌≤◌, Bool, true, false, cond, not, ◌&&◌, eqb, ltb, leb, List, length, sym, refl, ◌∙◌, ⊎_elim, arith}
-use mathlib.Core.Path.{fun_ext}
-use Rattle.std.proofs.lemmas.Bool.{both_ways, cases_lt, lt-ltb, le-leb, lt-leb, cond-true, cond-false, cond_both}
-use Rattle.std.proofs.lemmas.List.{get_or_past}
-use Rattle.std.proofs.lemmas.List.FromFn.{fill_by_all, length-map-range_with_len}
+use Rattle.std.proofs.Common.{◌≡◌, ℕ, ◌+◌, ◌<◌, ◌≤◌, cond, leb, refl, ⊎_elim, arith}
+use Rattle.std.proofs.lemmas.Bool.{cases_lt, le-leb, lt-leb, cond-true, cond-false, cond_both}
 use Rattle.banks.specs.declared.table.BankTable.{BankTable}
 use Rattle.banks.specs.Places.{age_at, spread, sum_below}
 use Rattle.sheets.specs.Limits.{most_banks}
 use Rattle.banks.specs.Table.{dwell}
 use Rattle.banks.proofs.Below.{sum_more}
 use Rattle.banks.proofs.Spread.{spread_at, spread_whole}
-use Rattle.rig.specs.Sets.{in_set, most_moves}
 use Rattle.deadlines.specs.Deadlines.{deadline, due_sum}
 use Rattle.deadlines.proofs.Subsets.{sum_unused}
 

@@ -1,5 +1,5 @@
 -- From a search for a sheet to the answer, in ticks.
-use Rattle.std.proofs.Common.{◌≡◌, ℕ, List, sym, refl, ◌∙◌, subst}
+use Rattle.std.proofs.Common.{◌≡◌, ℕ, refl, ◌∙◌, subst}
 use Rattle.rig.specs.declared.verdict.Verdict.{Verdict}
 use Rattle.rig.specs.declared.verdict.Verdict.TheVariants.{NoRound, Round}
 use Rattle.rig.specs.Orders.{LawfulForEver, Order}

@@ -1,5 +1,5 @@
 -- One grant over the planner's rows.
-use Rattle.std.proofs.Common.{◌≡◌, ℕ, ◌≤◌, List, [], ◌∷◌, length, take, drop, Some, None, Ok, Option, Result, sym, refl, ap, ◌∙◌, subst, arith}
+use Rattle.std.proofs.Common.{◌≡◌, ℕ, List, [], length, take, drop, Some, None, Ok, Option, Result, sym, refl, ap, ◌∙◌, subst, arith}
 use Rattle.std.proofs.lemmas.List.{length-drop, length-take}
 use Rattle.std.proofs.lemmas.List.Elements.{All-cons, All-nil}
 use Rattle.rig.specs.Meaning.{Meaning}
@@ -11,7 +11,6 @@ use Rattle.banks.specs.FromSheet.{TableOf}
 use Rattle.rounds.specs.declared.record.RoundRecord.{RoundRecord}
 use Rattle.rounds.specs.Record.{MakesRecord, list_of}
 use Rattle.search.specs.declared.calls.Call.{Call}
-use Rattle.search.specs.declared.calls.Call.TheVariants.{Grant}
 use Rattle.search.specs.declared.calls.Outcome.{Outcome}
 use Rattle.search.specs.declared.calls.Reply.{Reply}
 use Rattle.search.specs.declared.calls.Short.{Short}

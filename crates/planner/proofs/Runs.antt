@@ -1,5 +1,5 @@
 -- The round that a planner runs.
-use Rattle.std.proofs.Common.{◌≡◌, ℕ, ◌+◌, ◌-◌, ◌≤◌, false, List, length, take, drop, is_ok, IfOk, Some, None, Ok, Err, Decides, Option, Result, sym, refl, ap, subst, arith, MatchResult}
+use Rattle.std.proofs.Common.{◌≡◌, ℕ, ◌+◌, ◌-◌, ◌≤◌, false, List, length, take, drop, is_ok, IfOk, Some, None, Ok, Err, Decides, Option, Result, refl, ap, subst, arith, MatchResult}
 use Rattle.std.specs.List.{between}
 use Rattle.std.proofs.lemmas.List.{length-drop}
 use Rattle.std.proofs.lemmas.Bool.{both_ways}
@@ -18,7 +18,7 @@ use Rattle.search.specs.declared.calls.Short.{Short}
 use Rattle.search.specs.declared.row.Row.{Row}
 use Rattle.search.specs.declared.step.Standing.{Standing}
 use Rattle.search.specs.declared.step.Standing.TheVariants.{Open, NoRound, Full, Round}
-use Rattle.search.specs.Calls.{BookState, LastCopied, book_state, buffers}
+use Rattle.search.specs.Calls.{LastCopied, book_state, buffers}
 use Rattle.search.specs.Promised.{Searched}
 use Rattle.planner.specs.Plans.{RunsOn, round_in}
 use Rattle.planner.specs.Plans.RunsOn.{found, unfit}

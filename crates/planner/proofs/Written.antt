@@ -1,5 +1,5 @@
 -- The lengths of what the planner prints.
-use Rattle.std.proofs.Common.{◌≡◌, ℕ, ◌≤◌, true, List, length, is_ok, Ok, Err, Result, sym, refl, ap, ◌∙◌, subst, arith}
+use Rattle.std.proofs.Common.{◌≡◌, ℕ, ◌≤◌, true, List, length, is_ok, Ok, Err, Result, refl, arith}
 use Rattle.std.proofs.lemmas.List.{length-append, length-take}
 use Rattle.refusals.specs.declared.Refusal.{Refusal}
 use Rattle.rig.specs.declared.verdict.Verdict.{Verdict}

@@ -1,5 +1,5 @@
 -- Ages as functions of the bank: what their tests decide, and what a dwell keeps. A reader's settling is a number here.
-use Rattle.std.specs.Prelude.{◌≡◌, ℕ, ◌+◌, ◌*◌, ◌<◌, ◌≤◌, Bool, true, false, cond, Decides, ◌==◌, ◌≢◌, refl}
+use Rattle.std.specs.Prelude.{◌≡◌, ℕ, ◌+◌, ◌*◌, ◌<◌, ◌≤◌, true, cond, Decides, ◌==◌, ◌≢◌, refl}
 use Rattle.std.proofs.Common.{subst, sym, ◌∙◌, ⊎_elim, arith}
 use Rattle.std.proofs.lemmas.Bool.{cases_eq, cases_lt, cond-true, cond-false, eq-eqb, ne_eqb}
 use Rattle.std.proofs.lemmas.Bool.Decides.{Decides-like, nat_tests}
@@ -7,7 +7,7 @@ use Rattle.banks.specs.declared.table.BankTable.{BankTable}
 use Rattle.sheets.specs.Limits.{most_banks}
 use Rattle.banks.specs.Limits.{most_gap}
 use Rattle.banks.specs.Table.{dwell, gap}
-use Rattle.readers.specs.Ages.{Aged, AgesCover, AgesProper, InTime, age_sum, aged, ages_cover, ages_proper, in_time}
+use Rattle.readers.specs.Ages.{Aged, AgesCover, AgesProper, InTime, age_sum, aged, ages_proper, in_time}
 use Rattle.banks.specs.Places.{age_at, spread}
 use Rattle.banks.proofs.Below.{every_decides, sum_capped}
 use Rattle.banks.proofs.Spread.{spread_at}

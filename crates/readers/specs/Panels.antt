@@ -1,5 +1,5 @@
 -- Last panels: what their tests tell, and what settling costs.
-use Rattle.std.specs.Prelude.{◌≡◌, ℕ, ◌+◌, ◌<◌, ◌≤◌, Bool, true, false, cond, nat_eq, ◌⊎◌, Some, None, Decides, Option, MatchOption, ◌≢◌, refl}
+use Rattle.std.specs.Prelude.{◌≡◌, ℕ, ◌≤◌, false, cond, nat_eq, ◌⊎◌, Some, None, Decides, Option, ◌≢◌, refl}
 use Rattle.std.proofs.Common.{subst, sym, ap, inl, inr, ⊎_elim, arith}
 use Rattle.std.proofs.lemmas.Bool.{leb-true, le-leb, eqb-true, eq-eqb, ne_eqb, both_ways, false≢true}
 use Rattle.std.proofs.lemmas.Bool.Decides.{Decides-eqb}

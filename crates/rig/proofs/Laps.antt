@@ -1,17 +1,17 @@
 -- Laps of a list from rest: each lap ends no fresher than it began, and a lap that closes goes on for ever.
-use Rattle.std.proofs.Common.{◌≡◌, ℕ, zero, suc, ◌+◌, ◌-◌, ◌*◌, ◌/◌, ◌%◌, ◌<◌, ◌≤◌, Bool, true, false, ◌⊎◌, List, length, get_or, sym, refl, ap, ◌∙◌, subst, ap₂, inl, inr, ⊎_elim, not-suc-le-zero, add-zero, add-suc, mod-eq_of_lt, suc-mul, add-mul, mul-le-mul, one-mul, zero-mul, add-one, arith, below_more}
+use Rattle.std.proofs.Common.{◌≡◌, ℕ, zero, suc, ◌+◌, ◌-◌, ◌*◌, ◌/◌, ◌%◌, ◌<◌, ◌≤◌, Bool, true, false, List, length, get_or, sym, refl, ap, ◌∙◌, subst, ap₂, ⊎_elim, not-suc-le-zero, add-zero, mod-eq_of_lt, suc-mul, mul-le-mul, zero-mul, add-one, arith, below_more}
 use native.Mathlib.Nat.{mul-add-mod_self_right}
 use lib.Arith.{digits_div, digits_mod}
 use Rattle.std.proofs.lemmas.Bool.{cases_lt, cases_order, both_ways}
-use Rattle.rig.specs.Meaning.{Meaning, lawful, after}
+use Rattle.rig.specs.Meaning.{Meaning, lawful}
 use Rattle.rig.specs.Laws.{Laws}
-use Rattle.rig.specs.Orders.{Order, reached, LawfulTo, Endless, again, LawfulForEver}
+use Rattle.rig.specs.Orders.{reached, LawfulTo, again, LawfulForEver}
 use Rattle.rig.specs.Checks.{list_order, lap_state, closes, LapRan, LapStopped, OnlyMoves, FirstClosing, FirstUnlawful, FirstNoMove, ListFault, told}
 use Rattle.rig.specs.Checks.ListFault.{no_move_at, unlawful_at}
 use Rattle.rig.specs.declared.check.Unfit.{Unfit}
 use Rattle.rig.specs.declared.check.Unfit.TheVariants.{NoMove, Unlawful}
 use Rattle.refusals.specs.declared.Refusal.{Refusal}
-use Rattle.rig.proofs.Runs.{reached_agree, reached_add, lawful_fewer, lawful_move, Fresher, fresher_onward, fresher_reached, fresher_lawful, reached_proper, rest_fresher}
+use Rattle.rig.proofs.Runs.{reached_agree, reached_add, lawful_move, Fresher, fresher_onward, fresher_reached, fresher_lawful, reached_proper, rest_fresher}
 
 -- the repetition at position k of any lap
 pub again_at : (xs : List ℕ) (n k : ℕ) → k < length xs → again xs (n * length xs + k) ≡ get_or xs k 0

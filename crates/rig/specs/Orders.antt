@@ -1,5 +1,5 @@
 -- Orders of moves, finite and endless, and rounds.
-use Rattle.std.specs.Prelude.{◌≡◌, ℕ, zero, suc, ◌%◌, ◌<◌, Bool, true, false, List, length, slice_index}
+use Rattle.std.specs.Prelude.{◌≡◌, ℕ, zero, suc, ◌%◌, ◌<◌, true, List, length, slice_index}
 use Rattle.rig.specs.Meaning.{Meaning, lawful, after}
 
 -- An order names the move at each place, from 0.

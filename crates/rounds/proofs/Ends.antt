@@ -1,18 +1,17 @@
 -- Where every line of a stored round is good: what the checker's reply says of its end.
-use Rattle.std.proofs.Common.{◌≡◌, ℕ, ◌+◌, ◌-◌, ◌<◌, ◌≤◌, List, ◌++◌, length, get_or, take, drop, Ok, Err, Result, sym, refl, ap, ◌∙◌, subst, ⊎_elim, append_assoc, arith}
+use Rattle.std.proofs.Common.{◌≡◌, ℕ, ◌-◌, ◌<◌, ◌≤◌, List, ◌++◌, length, get_or, take, drop, sym, ap, ◌∙◌, subst, ⊎_elim, append_assoc, arith}
 use native.Mathlib.Nat.{sub-zero}
 use Rattle.std.proofs.lemmas.List.{length-append, length-take-le, drop_at, take_at, take_rest, append-nil, nil_from_length}
 use Rattle.refusals.specs.declared.Refusal.{Refusal}
 use Rattle.refusals.specs.Numbers.{not_lawful_in_file}
 use Rattle.rig.specs.declared.check.Unfit.{Unfit}
 use Rattle.rig.specs.declared.check.Unfit.TheVariants.{NoMove, Unlawful}
-use Rattle.rig.specs.Checks.{OnlyMoves, FirstNoMove}
+use Rattle.rig.specs.Checks.{OnlyMoves}
 use Rattle.rig.proofs.Laps.{Says}
 use Rattle.frames.specs.declared.faults.FileFault.{FileFault}
 use Rattle.frames.specs.Faults.{file_told}
 use Rattle.banks.specs.declared.table.BankTable.{BankTable}
 use Rattle.readers.specs.Panelled.{panelled}
-use Rattle.frames.specs.Lines.{most_bytes}
 use Rattle.banks.specs.Stored.{most_dwells, head_line, bank_lines, TableRead}
 use Rattle.rounds.specs.declared.record.RoundRecord.{RoundRecord}
 use Rattle.rounds.specs.Record.{Holds, list_of}

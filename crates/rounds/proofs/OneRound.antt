@@ -1,12 +1,12 @@
 -- A stored round's text has no fault, and it is the text of one table and one list only.
-use Rattle.std.proofs.Common.{◌≡◌, ℕ, zero, suc, ◌+◌, ◌-◌, ◌*◌, ◌/◌, ◌%◌, ◌^◌, ◌<◌, ◌≤◌, min, Bool, true, false, cond, eqb, ltb, ◌⊎◌, List, [], ◌∷◌, ◌++◌, length, get_or, take, drop, sym, refl, ap, ◌∙◌, subst, ap₂, inl, inr, ⊎_elim, append_assoc, append-nil, not-suc-le-zero, mod-eq_of_lt, add-one, arith, lit≤}
+use Rattle.std.proofs.Common.{◌≡◌, ℕ, zero, suc, ◌+◌, ◌-◌, ◌*◌, ◌/◌, ◌%◌, ◌<◌, ◌≤◌, min, List, [], ◌∷◌, ◌++◌, length, get_or, drop, sym, refl, ap, ◌∙◌, subst, ap₂, ⊎_elim, append_assoc, append-nil, not-suc-le-zero, mod-eq_of_lt, arith}
 use Rattle.std.specs.List.{flat_map}
-use Rattle.std.proofs.lemmas.List.{append_cancel_right, length-append, length-take, length-drop, get_or-take, get_or-drop, get_or_past, ext_get_or, nil_from_length}
+use Rattle.std.proofs.lemmas.List.{append_cancel_right, length-append, length-take, length-drop, get_or-take, get_or-drop, ext_get_or, nil_from_length}
 use Rattle.std.proofs.lemmas.Bool.{cases_lt, cases_order, cond-true, eq-eqb, lt-ltb}
 use Rattle.refusals.specs.declared.Refusal.{Refusal}
 use Rattle.frames.specs.Digits.{AllDigits, numeral, value}
-use Rattle.frames.specs.Frames.{digits_after, Shaped}
-use Rattle.frames.specs.BadLines.{field, BadLine}
+use Rattle.frames.specs.Frames.{digits_after}
+use Rattle.frames.specs.BadLines.{BadLine}
 use Rattle.frames.proofs.Numerals.{all_none, numeral_digits, numeral_same}
 use Rattle.frames.proofs.Splits.{same_split}
 use Rattle.frames.proofs.OneFault.{digits_append, value_small_numeral, GoodLine, good_line_not_bad, one_bad_line}
@@ -18,14 +18,13 @@ use Rattle.banks.specs.declared.table.BankTable.{BankTable}
 use Rattle.banks.specs.Limits.{bank_at}
 use Rattle.readers.specs.Panelled.{panelled}
 use Rattle.frames.specs.Lines.{most_bytes}
-use Rattle.banks.specs.Stored.{most_dwells, head_line, bank_line, bank_lines, TableRead, TableFault}
+use Rattle.banks.specs.Stored.{head_line, bank_line, bank_lines, TableRead, TableFault}
 use Rattle.banks.proofs.OneTable.{one_table, table_same, read_no_fault, one_table_fault}
 use Rattle.refusals.specs.Numbers.{not_lawful_in_file}
 use Rattle.rounds.specs.Stored.{round_text, last_line, IsStored, LinesRead, EndFault, FirstFault}
 use Rattle.rounds.specs.Stored.EndFault.{unlawful, after_end}
 use Rattle.rounds.specs.Stored.FirstFault.{in_table, in_list, at_end}
 use Rattle.rounds.specs.Parts.{part_size, part_line, part, part_lines, parts_of, part_due, bad_bank, part_column, OnlyBanks, PartsFault}
-use Rattle.rounds.proofs.PartLines.{part_lines_more}
 
 -- numbers that two digits can write
 abbrev Small : List ℕ → Type 0

@@ -1,11 +1,11 @@
 -- The lines of a list: which column is told, what the digits of a part say, and the step from part to part.
-use Rattle.std.proofs.Common.{◌≡◌, ℕ, zero, suc, ◌+◌, ◌-◌, ◌*◌, ◌/◌, ◌%◌, ◌^◌, ◌<◌, ◌≤◌, min, Bool, true, false, cond, eqb, ltb, ◌⊎◌, List, [], ◌∷◌, ◌++◌, length, get_or, take, drop, sym, refl, ap, ◌∙◌, subst, ap₂, inl, inr, ⊎_elim, append_assoc, not-suc-le-zero, add-one, arith, Bor}
+use Rattle.std.proofs.Common.{◌≡◌, ℕ, zero, suc, ◌+◌, ◌-◌, ◌*◌, ◌^◌, ◌<◌, ◌≤◌, min, cond, eqb, ltb, List, [], ◌∷◌, ◌++◌, length, get_or, take, drop, sym, refl, ap, ◌∙◌, subst, ap₂, ⊎_elim, append_assoc, not-suc-le-zero, add-one, arith, Bor}
 use native.Mathlib.Nat.{sub-zero}
 use Rattle.std.specs.List.{flat_map}
 use Rattle.std.proofs.lemmas.List.{nil_from_length, append-nil, drop-drop, length-drop, length-append, length-take-le, get_or-drop, get_or-take, get_or_append_left, take_all, take_at, drop_at, drop_all, take-take, drop-take}
 use Rattle.std.proofs.lemmas.Slice.{take-put_mid_below}
 use borrow.Rule.Slice.PartMut.{put_mid}
-use Rattle.std.proofs.lemmas.Bool.{lt-ltb, le-ltb, ltb-true, cond-true, cond-false, cases_lt, cases_Bool, eqb-true}
+use Rattle.std.proofs.lemmas.Bool.{lt-ltb, le-ltb, cond-true, cond-false, cases_lt, cases_Bool, eqb-true}
 use Rattle.frames.specs.declared.frame.Frame.{Frame}
 use Rattle.frames.specs.declared.frame.Frame.TheVariants.{SheetHead, SheetBank, Feeder, FeederCount, Verdict, RoundHead, RoundBank, RoundPart, Refused}
 use Rattle.refusals.specs.declared.Refusal.{Refusal}
@@ -15,7 +15,7 @@ use Rattle.frames.specs.Digits.{AllDigits, numeral, value}
 use Rattle.frames.specs.BadLines.{field, BadLine}
 use Rattle.frames.proofs.BadLines.{field_text, field_digits, field_length, frame_text, read_digits, read_length, bad_frame}
 use Rattle.frames.proofs.Numerals.{digits_drop, value_small}
-use Rattle.rounds.specs.Parts.{part_size, part_line, part, part_lines, parts_of, part_due, bad_bank, part_column, OnlyBanks, PartsFault}
+use Rattle.rounds.specs.Parts.{part_size, part_line, part, part_lines, part_due, bad_bank, part_column, OnlyBanks, PartsFault}
 
 bad_bank_next : (banks n c : ℕ) (ds : List ℕ) → bad_bank banks (suc n) c ds ≡ cond (ltb (value (take 2 ds)) banks) (bad_bank banks n (c + 2) (drop 2 ds)) c
 unfolding bad_bank

@@ -1,5 +1,5 @@
 -- The stock round is lawful for ever: its second lap ends in the state in which it began.
-use Rattle.std.proofs.Common.{◌≡◌, ℕ, ◌-◌, true, List, [], ◌∷◌, replicate, sym, refl, subst}
+use Rattle.std.proofs.Common.{◌≡◌, ◌-◌, true, List, [], ◌∷◌, replicate, sym, refl, subst}
 use Rattle.rig.specs.Orders.{reached, LawfulForEver}
 use Rattle.sheets.specs.Limits.{most_banks}
 use Rattle.banks.specs.declared.table.Bank.{Bank}

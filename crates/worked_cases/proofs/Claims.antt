@@ -1,5 +1,5 @@
 -- Tests that compute whether a claim is true of a rig.
-use Rattle.std.proofs.Common.{◌≡◌, ℕ, ◌+◌, ◌-◌, ◌*◌, ◌<◌, Bool, true, false, not, ◌&&◌, ltb, List, length, get_or, subst, arith}
+use Rattle.std.proofs.Common.{◌≡◌, ℕ, ◌+◌, ◌-◌, ◌*◌, ◌<◌, Bool, true, false, not, ◌&&◌, ltb, length, get_or, subst, arith}
 use Rattle.std.proofs.lemmas.Bool.{and_parts, ltb-true, not-true}
 use Rattle.rig.specs.Meaning.{Meaning, lawful}
 use Rattle.rig.specs.Laws.{Laws}

@@ -1,4 +1,4 @@
-use Rattle.std.proofs.Common.{◌≡◌, ℕ, ◌≤◌, eqb, take, count_by}
+use Rattle.std.proofs.Common.{◌≡◌, ◌≤◌, eqb, take, count_by}
 use Rattle.accounts.proofs.account.dwells_on.Given as goal
 
 abbrev pub invariant-loop-on : goal.invariant-loop-on

@@ -1,4 +1,4 @@
-use Rattle.std.proofs.Common.{◌≡◌, ℕ, ◌*◌, length, ap, ◌∙◌, arith}
+use Rattle.std.proofs.Common.{◌≡◌, ◌*◌, length, ap, ◌∙◌, arith}
 use Rattle.rig.specs.Orders.{again}
 use Rattle.readers.specs.Ticks.{clock}
 use Rattle.readers.specs.Clocks.{clock_next}

@@ -1,4 +1,4 @@
-use Rattle.std.proofs.Common.{◌≡◌, ℕ, ◌+◌, ◌*◌, ◌≤◌, length}
+use Rattle.std.proofs.Common.{◌≡◌, ◌+◌, ◌*◌, ◌≤◌, length}
 use Rattle.rig.specs.Orders.{again}
 use Rattle.readers.specs.Ticks.{clock}
 use Rattle.accounts.specs.Account.{Lap}

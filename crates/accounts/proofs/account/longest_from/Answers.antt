@@ -1,4 +1,4 @@
-use Rattle.std.proofs.Common.{◌≡◌, ℕ, ◌+◌, ◌<◌, ◌≤◌, max, ◌⊎◌, length, get_or, sym, refl, ap, ◌∙◌, subst, inl, inr, ⊎_elim, mod-eq_of_lt, arith}
+use Rattle.std.proofs.Common.{◌≡◌, ℕ, ◌+◌, ◌<◌, max, length, get_or, sym, refl, ap, ◌∙◌, subst, mod-eq_of_lt, arith}
 use Rattle.rig.specs.Orders.{again}
 use Rattle.accounts.proofs.Repeats.{again_lap}
 use Rattle.accounts.proofs.Watch.{Watched, watched_none, watched_past, watched_on, watched_all}

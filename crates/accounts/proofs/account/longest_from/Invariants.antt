@@ -1,4 +1,4 @@
-use Rattle.std.proofs.Common.{ℕ, ◌+◌, ◌*◌, ◌≤◌}
+use Rattle.std.proofs.Common.{◌+◌, ◌*◌, ◌≤◌}
 use Rattle.rig.specs.Orders.{again}
 use Rattle.accounts.proofs.Watch.{Watched}
 use Rattle.accounts.proofs.account.longest_from.Given as goal

@@ -1,4 +1,4 @@
-use Rattle.std.proofs.Common.{◌≡◌, ℕ, ◌-◌, ◌≤◌, sym, refl, ap, ◌∙◌, subst}
+use Rattle.std.proofs.Common.{ℕ, ◌-◌, ◌≤◌, subst}
 use Rattle.std.specs.Option.{SomeIff}
 use Rattle.rig.specs.Orders.{again}
 use Rattle.banks.specs.Table.{gap}

@@ -1,4 +1,4 @@
-use Rattle.std.proofs.Common.{ℕ, refl}
+use Rattle.std.proofs.Common.{ℕ}
 use lib.ListN.{length-replicate}
 use Rattle.planner.proofs.OneGrants.{answers_from}
 use Rattle.planner.proofs.answer.answer_on.Goals as goal

@@ -1,4 +1,4 @@
-use Rattle.std.proofs.Common.{◌≡◌, sym, refl, ◌∙◌, subst, arith}
+use Rattle.std.proofs.Common.{◌≡◌, sym, refl, ◌∙◌, subst}
 use Rattle.banks.specs.FromSheet.{TableOf}
 use Rattle.planner.proofs.Answered.{answered_panelled, answered_plain, panelled_serves, plain_serves}
 use Rattle.planner.proofs.answer.answer_sheet.Goals as goal

@@ -1,4 +1,4 @@
-use Rattle.std.proofs.Common.{◌≡◌, sym, ap, ◌∙◌, subst}
+use Rattle.std.proofs.Common.{sym, ap, ◌∙◌, subst}
 use Rattle.banks.specs.FromSheet.{TableOf}
 use Rattle.running.specs.Told.{reply_at}
 use Rattle.planner.specs.Plans.{RunsOn}

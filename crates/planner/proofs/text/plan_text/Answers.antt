@@ -1,4 +1,4 @@
-use Rattle.std.proofs.Common.{◌≡◌, sym, subst}
+use Rattle.std.proofs.Common.{sym, subst}
 use Rattle.listings.specs.Answers.{answer_text}
 use Rattle.listings.specs.Texts.{refused_line}
 use Rattle.sheets.specs.SheetText.{FirstFault}

@@ -1,8 +1,6 @@
-use Rattle.std.proofs.Common.{◌≡◌, ℕ, ◌<◌, ◌≤◌, Bool, true, false, sym, refl, ◌∙◌, subst, arith}
+use Rattle.std.proofs.Common.{ℕ, sym, refl, subst, arith}
 use mir.Facts.{Fits-below}
 use Rattle.std.proofs.lemmas.Bool.{false≢true}
-use Rattle.rig.specs.Meaning.{Meaning}
-use Rattle.rig.specs.Orders.{LawfulForEver}
 use Rattle.rig.specs.Checks.{FirstNoMove, OnlyMoves}
 use Rattle.rig.specs.Checks.ListFault.{no_move_at, unlawful_at}
 use Rattle.rig.proofs.Laps.{no_move_refutes, unlawful_refutes, going_start, going_stop, going_closes, going_ages, going_on}

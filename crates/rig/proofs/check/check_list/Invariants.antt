@@ -1,4 +1,4 @@
-use Rattle.std.proofs.Common.{ℕ, ◌-◌}
+use Rattle.std.proofs.Common.{◌-◌}
 use Rattle.rig.proofs.Laps.{Going}
 use Rattle.rig.proofs.check.check_list.Given as goal
 

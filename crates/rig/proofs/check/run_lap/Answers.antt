@@ -1,6 +1,6 @@
-use Rattle.std.proofs.Common.{◌≡◌, ℕ, ◌<◌, Bool, true, false, sym, refl, ap, ◌∙◌, subst, ap₂, not-suc-le-zero}
-use Rattle.rig.specs.Meaning.{Meaning, lawful, after}
-use Rattle.rig.specs.Orders.{LawfulTo, reached}
+use Rattle.std.proofs.Common.{◌≡◌, true, sym, refl, ap, ◌∙◌, subst, not-suc-le-zero}
+use Rattle.rig.specs.Meaning.{lawful, after}
+use Rattle.rig.specs.Orders.{reached}
 use Rattle.rig.specs.Checks.{list_order}
 use Rattle.rig.proofs.Runs.{lawful_more, reached_more}
 use Rattle.rig.proofs.check.run_lap.Goals as goal

@@ -1,4 +1,4 @@
-use Rattle.std.proofs.Common.{◌≡◌, ℕ, ◌<◌}
+use Rattle.std.proofs.Common.{◌≡◌}
 use Rattle.rig.specs.Orders.{LawfulTo, reached}
 use Rattle.rig.specs.Checks.{list_order}
 use Rattle.rig.proofs.check.run_lap.Given as goal

@@ -1,4 +1,4 @@
-use Rattle.std.proofs.Common.{◌≡◌, ℕ, ◌+◌, ◌*◌, ◌<◌, ◌≤◌, sym, ap, ◌∙◌, arith, lit≤}
+use Rattle.std.proofs.Common.{◌≡◌, ℕ, ◌*◌, ◌<◌, ◌≤◌, sym, ap, ◌∙◌, arith, lit≤}
 use native.Mathlib.Nat.{sub-zero}
 use Rattle.frames.specs.BadLines.{field}
 use Rattle.frames.proofs.BadLines.{field_digits}

@@ -1,14 +1,11 @@
-use Rattle.std.proofs.Common.{◌≡◌, ℕ, ◌+◌, ◌*◌, ◌<◌, ◌≤◌, List, length, get_or, drop, sym, refl, ap, ◌∙◌, subst, arith}
+use Rattle.std.proofs.Common.{◌≡◌, ℕ, ◌*◌, List, length, sym, ap, ◌∙◌, subst, arith}
 use Rattle.std.proofs.lemmas.List.{take_rest, length-drop}
 use Rattle.std.proofs.lemmas.Result.{err_from_is_err_and}
-use Rattle.frames.specs.declared.frame.Frame.{Frame}
-use Rattle.frames.specs.declared.frame.Frame.TheVariants.{RoundPart}
 use Rattle.frames.specs.Digits.{AllDigits}
-use Rattle.frames.specs.Frames.{FrameRead}
 use Rattle.frames.specs.BadLines.{field}
-use Rattle.frames.proofs.BadLines.{next_fails, other_frame, bad_frame, frame_text, read_digits}
+use Rattle.frames.proofs.BadLines.{next_fails, other_frame}
 use Rattle.frames.proofs.Numerals.{digits_drop}
-use Rattle.rounds.specs.Parts.{part_column, OnlyBanks}
+use Rattle.rounds.specs.Parts.{part_column}
 use Rattle.rounds.proofs.PartLines.{not_part, part_frame, part_good, part_text}
 use Rattle.rounds.proofs.parts.read_part.Goals as goal
 

@@ -1,4 +1,4 @@
-use Rattle.std.proofs.Common.{◌≡◌, ℕ, List, sym, refl, subst}
+use Rattle.std.proofs.Common.{refl, subst}
 use Rattle.rig.specs.Checks.{ListFault, told}
 use Rattle.rig.proofs.Laps.{list_says}
 use Rattle.banks.specs.declared.table.BankTable.{BankTable}

@@ -1,4 +1,4 @@
-use Rattle.std.proofs.Common.{◌≡◌, ℕ, false, List, is_ok, Ok, Err, Decides, Result, refl, ◌∙◌, MatchResult}
+use Rattle.std.proofs.Common.{ℕ, false, List, is_ok, Ok, Err, Decides, Result, refl, ◌∙◌, MatchResult}
 use Rattle.std.proofs.lemmas.Result.{err_from_is_err_and, MatchResult-weaker}
 use Rattle.std.proofs.lemmas.Bool.{false≢true}
 use Rattle.refusals.specs.declared.Refusal.{Refusal}

@@ -1,4 +1,4 @@
-use Rattle.std.proofs.Common.{◌≡◌, ℕ, true, false, List, Decides, sym, refl, subst, rules}
+use Rattle.std.proofs.Common.{true, false, Decides, sym, refl, subst, rules}
 use Rattle.std.proofs.lemmas.Result.{err_from_is_err_and}
 use Rattle.std.proofs.lemmas.Bool.{false≢true}
 use Rattle.rig.specs.Checks.{ListFault, told}
