@@ -27,7 +27,7 @@ fn answer_with_a_round(rt: HostRuntime) -> Result<(), Fail> {
     let mut out = [b'-'; 67];
     assert_eq!(rt; write_answer(Verdict::Round, 12, &record, &mut out), Ok(65));
     assert!(rt; &out[..65] == ANSWER);
-    assert!(rt; &out[65..] == b"--");
+    assert!(rt; &out[65..] == b"--".as_slice());
     Ok(())
 }
 
@@ -39,7 +39,7 @@ fn answer_without_a_round(rt: HostRuntime) -> Result<(), Fail> {
         write_answer(Verdict::Full, 0xFFFF_FFFF, &record, &mut out),
         Ok(13)
     );
-    assert!(rt; &out[..] == b"1003FFFFFFFF\n--");
+    assert!(rt; &out[..] == b"1003FFFFFFFF\n--".as_slice());
     Ok(())
 }
 
@@ -55,7 +55,7 @@ fn refusal_line(rt: HostRuntime) {
         length: 0,
     };
     assert_eq!(rt; write_refusal(&refusal, &mut out), Ok(21));
-    assert!(rt; &out[..] == b"1F0B0000000400000001\n");
+    assert!(rt; &out[..] == b"1F0B0000000400000001\n".as_slice());
 }
 
 #[test]

@@ -42,12 +42,18 @@ struct Accounted {
 }
 
 // Checks what is told of each bank, and that there is no other.
-fn banks_told(rt: &impl Abort, record: &RoundRecord, banks: &[OfBank]) -> Result<(), Fail> {
+fn banks_told(
+    rt: &impl Abort,
+    k: usize,
+    record: &RoundRecord,
+    banks: &[OfBank],
+) -> Result<(), Fail> {
     for bank in 0..17u8 {
         assert_eq!(rt;
             of_bank(record, bank),
             banks.get(bank as usize).copied(),
-            "{}",
+            "{}: {}",
+            k,
             bank
         );
     }
@@ -63,7 +69,7 @@ fn all_accounted(rt: &impl Abort, cases: &[Accounted]) -> Result<(), Fail> {
             "{}",
             k
         );
-        banks_told(rt, &record, case.banks).note(k)?;
+        banks_told(rt, k, &record, case.banks)?;
     }
     Ok(())
 }

@@ -46,17 +46,17 @@ fn all_listed(rt: &impl Abort, cases: &[Listed]) -> Result<(), Fail> {
     Ok(())
 }
 
-fn long_told(rt: &impl Abort, heap: Global, case: &Long) -> Result<(), Fail> {
+fn long_told(rt: &impl Abort, heap: Global, k: usize, case: &Long) -> Result<(), Fail> {
     let Long(of, record, checker) = *case;
     let list = bytes_of(heap, &of)?;
-    assert!(rt; filled_so(list.as_slice(), record)?);
-    assert_eq!(rt; checked(list.as_slice())?, checker);
+    assert!(rt; filled_so(list.as_slice(), record)?, "{}", k);
+    assert_eq!(rt; checked(list.as_slice())?, checker, "{}", k);
     Ok(())
 }
 
 fn all_long(rt: &impl Abort, heap: Global, cases: &[Long]) -> Result<(), Fail> {
     for (k, case) in cases.iter().enumerate() {
-        long_told(rt, heap, case).note(k)?;
+        long_told(rt, heap, k, case)?;
     }
     Ok(())
 }
