@@ -7,8 +7,8 @@ use Rattle.sheets.specs.declared.sheet.Sheet.{Sheet}
 use Rattle.banks.specs.declared.table.BankTable.{BankTable}
 use Rattle.banks.specs.FromSheet.{TableOf}
 use Rattle.banks.proofs.SheetBanks.{one_table_of}
-use Rattle.readers.specs.Panelled.{panelled}
-use Rattle.readers.specs.Plain.{plain}
+use Rattle.readers.specs.Panelled.{guided_panelled, panelled}
+use Rattle.readers.specs.Plain.{guided_plain, plain}
 use Rattle.readers.specs.Ticks.{Regular}
 use Rattle.readers.proofs.Served.{lawful_is_regular}
 use Rattle.rounds.specs.declared.record.RoundRecord.{RoundRecord}
@@ -26,7 +26,7 @@ module _ (s : Sheet) (t : BankTable) (own : TableOf s t) where
   plain_serves unsettled u its xs h = panelled_serves u its xs (round_on_plain t (own.settle ∙ unsettled) xs h)
 
   module _ (v : Verdict) (visits : ℕ) (r : RoundRecord) where
-    answered : (s.settle ≡ 0 → AnswersOn s (plain t) v visits r) → ((s.settle ≡ 0 → ⊥) → AnswersOn s (panelled t) v visits r) → (v ≡ NoRound → (o : Order) → Regular t o → ⊥) → (v ≡ Round → TableOf s r.table) → Answers s v visits r
+    answered : (s.settle ≡ 0 → AnswersOn s (guided_plain t) v visits r) → ((s.settle ≡ 0 → ⊥) → AnswersOn s (guided_panelled t) v visits r) → (v ≡ NoRound → (o : Order) → Regular t o → ⊥) → (v ≡ Round → TableOf s r.table) → Answers s v visits r
     answered plainly settling none its =
         let same : v ≡ Round → r.table ≡ t = λ is. one_table_of s r.table t (its is) own in
         record {
@@ -40,13 +40,13 @@ module _ (s : Sheet) (t : BankTable) (own : TableOf s t) where
           swaps = λ is. no_swap_missed r (reply_at r) (λ n. refl) s (its is);
         }
 
-    pub answered_plain : s.settle ≡ 0 → AnswersOn s (plain t) v visits r → Answers s v visits r
+    pub answered_plain : s.settle ≡ 0 → AnswersOn s (guided_plain t) v visits r → Answers s v visits r
     answered_plain unsettled h =
         answered (λ _. h) (λ settles. absurd (settles unsettled))
         (λ is. none_on_plain t (own.settle ∙ unsettled) (h.search.promised.none_is_true (h.search.verdict ∙ is)))
         h.for_sheet
 
-    pub answered_panelled : (s.settle ≡ 0 → ⊥) → AnswersOn s (panelled t) v visits r → Answers s v visits r
+    pub answered_panelled : (s.settle ≡ 0 → ⊥) → AnswersOn s (guided_panelled t) v visits r → Answers s v visits r
     answered_panelled settles h =
         answered (λ unsettled. absurd (settles unsettled)) (λ _. h)
         (λ is. none_on_panelled t (h.search.promised.none_is_true (h.search.verdict ∙ is)))

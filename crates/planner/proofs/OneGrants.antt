@@ -2,7 +2,7 @@
 use Rattle.std.proofs.Common.{◌≡◌, ℕ, List, [], length, take, drop, Some, None, Ok, Option, Result, sym, refl, ap, ◌∙◌, subst, arith}
 use Rattle.std.proofs.lemmas.List.{length-drop, length-take}
 use Rattle.std.proofs.lemmas.List.Elements.{All-cons, All-nil}
-use Rattle.rig.specs.Meaning.{Meaning}
+use Rattle.rig.specs.Guides.{Guided}
 use Rattle.rig.specs.Orders.{LawfulForEver}
 use Rattle.rig.specs.declared.verdict.Verdict.TheVariants as verdict
 use Rattle.sheets.specs.declared.sheet.Sheet.{Sheet}
@@ -33,8 +33,8 @@ module _ {S : Type 0} (rows : List (Row S)) (taken : ℕ) (out out' : List ℕ) 
   copied_round NoRound (Some k) h n is = let z : ◌≡◌ {A = ℕ} 0 1 = cc h.0 in absurd (omega arith)
   copied_round Full (Some k) h n is = let z : ◌≡◌ {A = ℕ} 0 1 = cc h.0 in absurd (omega arith)
 
-module _ {R S : Type 0} (means : R → Meaning S) (rig : R) (rows : List (Row S)) (replies : List Reply) (room : List ℕ) (rows' : List (Row S)) (replies' : List Reply) (room' : List ℕ) (many : length rows ≡ plan_rows) (room-is : length room ≡ plan_rows) where
-  module _ (s : Sheet) (stock r : RoundRecord) (x : Outcome) (kept : length rows' ≡ length rows) (long : length room' ≡ length room) (serves : ServesSheet s (means rig)) (h : Completed means rows (one_grant_of rig) replies room rows' replies' room' x) where
+module _ {R S : Type 0} (means : R → Guided S) (rig : R) (rows : List (Row S)) (replies : List Reply) (room : List ℕ) (rows' : List (Row S)) (replies' : List Reply) (room' : List ℕ) (many : length rows ≡ plan_rows) (room-is : length room ≡ plan_rows) where
+  module _ (s : Sheet) (stock r : RoundRecord) (x : Outcome) (kept : length rows' ≡ length rows) (long : length room' ≡ length room) (serves : ServesSheet s (means rig).rig) (h : Completed means rows (one_grant_of rig) replies room rows' replies' room' x) where
     promised : Promised (means rig) plan_visits rows' (drop 0 room') x
     promised = h.promised (means rig) (All-cons (Brings means (means rig)) _ [] refl (All-nil (Brings means (means rig))))
 
@@ -43,7 +43,7 @@ module _ {R S : Type 0} (means : R → Meaning S) (rig : R) (rows : List (Row S)
     makes t n own is =
         record {
           few = omega (arith, length-take n (drop x.from room'), length-drop x.from room', long, room-is);
-          kept = serves t own (round_in room' x n) (subst (λ k. LawfulForEver (means rig) (take n (drop k room'))) (sym h.ran.from) (promised.round_is_good n is));
+          kept = serves t own (round_in room' x n) (subst (λ k. LawfulForEver (means rig).rig (take n (drop k room'))) (sym h.ran.from) (promised.round_is_good n is));
         }
 
     grant_sheet : RunsOn s room' (Ok x) stock r → x.verdict ≡ verdict.Round → TableOf s r.table
@@ -91,7 +91,7 @@ module _ {R S : Type 0} (means : R → Meaning S) (rig : R) (rows : List (Row S)
     }
 
 -- as it comes from a plan
-pub answers_from : {R S : Type 0} (means : R → Meaning S) (rig : R) (calls : List (Call R)) (rows : List (Row S)) (replies : List Reply) (room : List ℕ) (rows' : List (Row S)) (replies' : List Reply) (room' : List ℕ) (outcome : Result Outcome Short) (s : Sheet) (stock started r : RoundRecord) (x : Outcome) → length rows ≡ plan_rows → length room ≡ plan_rows → length rows' ≡ length rows → length room' ≡ length room → calls ≡ one_grant_of rig → ServesSheet s (means rig) → outcome ≡ Ok x → r ≡ started → Searched means rows calls replies room rows' replies' room' outcome → RunsOn s room' outcome stock started → Stock stock → AnswersOn s (means rig) x.verdict x.taken r
+pub answers_from : {R S : Type 0} (means : R → Guided S) (rig : R) (calls : List (Call R)) (rows : List (Row S)) (replies : List Reply) (room : List ℕ) (rows' : List (Row S)) (replies' : List Reply) (room' : List ℕ) (outcome : Result Outcome Short) (s : Sheet) (stock started r : RoundRecord) (x : Outcome) → length rows ≡ plan_rows → length room ≡ plan_rows → length rows' ≡ length rows → length room' ≡ length room → calls ≡ one_grant_of rig → ServesSheet s (means rig).rig → outcome ≡ Ok x → r ≡ started → Searched means rows calls replies room rows' replies' room' outcome → RunsOn s room' outcome stock started → Stock stock → AnswersOn s (means rig) x.verdict x.taken r
 answers_from means rig calls rows replies room rows' replies' room' outcome s stock started r x many room-is kept long one serves done same searched runs st =
     answers_on means rig rows replies room rows' replies' room' many room-is s stock r x kept long serves
     (subst (λ cs. Completed means rows cs replies room rows' replies' room' x) one (subst (λ o. Searched means rows calls replies room rows' replies' room' o) done searched))

@@ -4,7 +4,7 @@ use Rattle.std.specs.List.{between}
 use Rattle.std.proofs.lemmas.List.{length-drop}
 use Rattle.std.proofs.lemmas.Bool.{both_ways}
 use Rattle.rig.specs.Checks.{told}
-use Rattle.rig.specs.Meaning.{Meaning}
+use Rattle.rig.specs.Guides.{Guided}
 use Rattle.rig.specs.declared.check.Unfit.{Unfit}
 use Rattle.sheets.specs.declared.sheet.Sheet.{Sheet}
 use Rattle.banks.specs.declared.table.BankTable.{BankTable}
@@ -43,7 +43,7 @@ module _ {S : Type 0} (rows : List (Row S)) (taken : ℕ) (out out' : List ℕ) 
   copied_fits NoRound (Some k) h n is = let z : ◌≡◌ {A = ℕ} 0 1 = cc h.0 in absurd (omega arith)
   copied_fits Full (Some k) h n is = let z : ◌≡◌ {A = ℕ} 0 1 = cc h.0 in absurd (omega arith)
 
-module _ {R S : Type 0} (means : R → Meaning S) (rows : List (Row S)) (calls : List (Call R)) (replies : List Reply) (room : List ℕ) (rows' : List (Row S)) (replies' : List Reply) (room' : List ℕ) (long : length room' ≡ length room) where
+module _ {R S : Type 0} (means : R → Guided S) (rows : List (Row S)) (calls : List (Call R)) (replies : List Reply) (room : List ℕ) (rows' : List (Row S)) (replies' : List Reply) (room' : List ℕ) (long : length room' ≡ length room) where
   pub round_fits : (r : Result Outcome Short) → Searched means rows calls replies room rows' replies' room' r → IfOk r (λ x. (n : ℕ) → x.round ≡ Some n → x.from + n ≤ length room')
   round_fits (Ok x) h = λ n is.
       let ran = h.ran in

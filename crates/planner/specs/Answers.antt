@@ -4,6 +4,7 @@ use Rattle.refusals.specs.declared.Refusal.{Refusal}
 use Rattle.rig.specs.declared.verdict.Verdict.{Verdict}
 use Rattle.rig.specs.declared.verdict.Verdict.TheVariants.{NoRound, Round, Open, Full}
 use Rattle.rig.specs.Meaning.{Meaning}
+use Rattle.rig.specs.Guides.{Guided}
 use Rattle.rig.specs.Orders.{LawfulForEver, Order}
 use Rattle.sheets.specs.declared.sheet.Sheet.{Sheet}
 use Rattle.sheets.specs.Limits.{most_banks}
@@ -11,8 +12,8 @@ use Rattle.sheets.specs.SheetText.{FirstFault, sheet_text}
 use Rattle.banks.specs.declared.table.BankTable.{BankTable}
 use Rattle.banks.specs.FromSheet.{TableOf}
 use Rattle.banks.specs.Limits.{no_bank, stock_bank}
-use Rattle.readers.specs.Panelled.{panelled}
-use Rattle.readers.specs.Plain.{plain}
+use Rattle.readers.specs.Panelled.{guided_panelled, panelled}
+use Rattle.readers.specs.Plain.{guided_plain}
 use Rattle.readers.specs.Ticks.{Regular}
 use Rattle.rounds.specs.declared.record.RoundRecord.{RoundRecord}
 use Rattle.rounds.specs.Record.{list_of}
@@ -44,7 +45,7 @@ pub record Stock (r : RoundRecord) : Type 0 where
 
 -- A search of one grant over the planner's rows, on a rig of this meaning, came to this verdict after so many visits, with everything
 -- that is promised of it; with verdict round, the record has the round that it found. Full: every row is taken. It is never open.
-pub record OneGrant {S : Type 0} (m : Meaning S) (v : Verdict) (visits : ℕ) (r : RoundRecord) : Type 0 where
+pub record OneGrant {S : Type 0} (m : Guided S) (v : Verdict) (visits : ℕ) (r : RoundRecord) : Type 0 where
   pub rows : List (Row S)
   pub many : length rows ≡ plan_rows
   pub bytes : List ℕ
@@ -66,7 +67,7 @@ abbrev pub ServesSheet : {S : Type 0} → Sheet → Meaning S → Type 0
 ServesSheet s m = (t : BankTable) → TableOf s t → (xs : List ℕ) → LawfulForEver m xs → LawfulForEver (panelled t) xs
 
 -- What such a search for a sheet answers: with verdict round a record that has the sheet's table, and else the stock round.
-pub record AnswersOn {S : Type 0} (s : Sheet) (m : Meaning S) (v : Verdict) (visits : ℕ) (r : RoundRecord) : Type 0 where
+pub record AnswersOn {S : Type 0} (s : Sheet) (m : Guided S) (v : Verdict) (visits : ℕ) (r : RoundRecord) : Type 0 where
   pub search : OneGrant m v visits r
   pub for_sheet : v ≡ Round → TableOf s r.table
   pub otherwise : (v ≢ Round) → Stock r
@@ -78,8 +79,8 @@ pub record AnswersOn {S : Type 0} (s : Sheet) (m : Meaning S) (v : Verdict) (vis
 pub record Answers (s : Sheet) (v : Verdict) (visits : ℕ) (r : RoundRecord) : Type 0 where
   pub table : BankTable
   pub of_sheet : TableOf s table
-  pub unsettled : s.settle ≡ 0 → AnswersOn s (plain table) v visits r
-  pub settling : (s.settle ≢ 0) → AnswersOn s (panelled table) v visits r
+  pub unsettled : s.settle ≡ 0 → AnswersOn s (guided_plain table) v visits r
+  pub settling : (s.settle ≢ 0) → AnswersOn s (guided_panelled table) v visits r
   pub none : v ≡ NoRound → (o : Order) → Regular table o → ⊥
   pub for_sheet : v ≡ Round → r.table ≡ table
   pub regular : v ≡ Round → Regular table (order_of r)

@@ -1,11 +1,12 @@
 // The answer of the planner to a sheet: 1,024 rows and one grant of 4,096 visits.
 ghost use Rattle.std.specs.Prelude.{◌≡◌, length};
+ghost use Rattle.rig.specs.Guides.{guided};
 ghost use Rattle.planner.specs.Answers.{Answers, AnswersOn, ServesSheet, one_grant_of, plan_rows};
 
 use crate::planned::{Planned, plan};
 use banks::BankTable;
 use readers::{PanelledReader, PlainReader};
-use rig::{Rig, Verdict};
+use rig::{GuidedRig, Rig, Verdict};
 use rounds::RoundRecord;
 use search::{Call, Reply, Row};
 use sheets::Sheet;
@@ -24,10 +25,10 @@ pub struct Answer {
 }
 
 // The answer that one grant over these rows gives.
-fn answer_on<R: Rig>(sheet: &Sheet, rows: &mut [Row<R::State>], calls: &[Call<R>]) -> Answer
+fn answer_on<R: GuidedRig>(sheet: &Sheet, rows: &mut [Row<R::State>], calls: &[Call<R>]) -> Answer
     requires many { length rows.old ≡ plan_rows }
     requires one { (rig : R) × (calls.now ≡ one_grant_of rig) }
-    ensures { (rig : R) → calls.now ≡ one_grant_of rig → ServesSheet sheet.now (R.Rig.means rig) → AnswersOn sheet.now (R.Rig.means rig) result.verdict result.visits result.round }
+    ensures { (rig : R) → calls.now ≡ one_grant_of rig → ServesSheet sheet.now (R.Rig.means rig) → AnswersOn sheet.now (guided (R.Rig.means rig) (R.GuidedRig.guide rig)) result.verdict result.visits result.round }
 {
     let mut replies = [Reply::Wiped];
     let mut room = [0u8; ROWS];

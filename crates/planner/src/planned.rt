@@ -2,13 +2,14 @@
 ghost use Rattle.std.specs.Prelude.{◌≡◌, ℕ, ◌+◌, ◌≤◌, length, IfOk, Some};
 ghost use Rattle.sheets.specs.declared.sheet.Sheet.{Sheet as AnySheet};
 ghost use Rattle.banks.specs.FromSheet.{TableOf};
+ghost use Rattle.rig.specs.Guides.{guided};
 ghost use Rattle.search.specs.Promised.{Searched};
 ghost use Rattle.running.specs.Told.{reply_at, told};
 ghost use Rattle.running.specs.Swaps.{NoSwapMissed};
 ghost use Rattle.planner.specs.Plans.{RunsOn};
 
 use banks::BankTable;
-use rig::Rig;
+use rig::GuidedRig;
 use rounds::RoundRecord;
 use running::RunningReader;
 use search::{Call, Outcome, Reply, Row, Short, run_calls};
@@ -43,7 +44,7 @@ fn round_to_run(
 
 // Runs a list of calls on a fresh book over the rows. If they end with a round that makes a record with the bank table of the sheet,
 // a reader is started on that record; otherwise on the record handed in, whichever it is.
-pub fn plan<R: Rig>(
+pub fn plan<R: GuidedRig>(
     sheet: &Sheet,
     rows: &mut [Row<R::State>],
     calls: &[Call<R>],
@@ -51,7 +52,7 @@ pub fn plan<R: Rig>(
     room: &mut [u8],
     handed: RoundRecord,
 ) -> Planned
-    ensures searched { Searched R.Rig.means rows.old calls.now replies.old room.old rows.new replies.new room.new result.outcome }
+    ensures searched { Searched (λ r. guided (R.Rig.means r) (R.GuidedRig.guide r)) rows.old calls.now replies.old room.old rows.new replies.new room.new result.outcome }
     ensures runs { RunsOn sheet.now room.new result.outcome handed result.reader.round }
     ensures starts { (n : ℕ) → told result.reader n ≡ reply_at result.reader.round n }
     ensures swaps { (s : AnySheet) → TableOf s result.reader.round.table → NoSwapMissed s (told result.reader) }

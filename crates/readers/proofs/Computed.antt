@@ -1,8 +1,7 @@
 -- Tests that compute whether a list is lawful for ever.
 use Rattle.std.proofs.Common.{◌≡◌, ℕ, ◌*◌, Bool, true, ◌&&◌, ltb, List, length}
 use Rattle.std.proofs.lemmas.Bool.{and_parts, ltb-true}
-use Rattle.rig.specs.Meaning.{Meaning, lawful}
-use Rattle.rig.specs.Laws.{Laws}
+use Rattle.rig.specs.Meaning.{Meaning, Laws, lawful}
 use Rattle.rig.specs.Orders.{reached, again, LawfulForEver}
 use Rattle.rig.specs.Checks.{closes}
 use Rattle.rig.proofs.Laps.{closing_endless}

@@ -1,6 +1,7 @@
 -- The panelled reader as a rig: the state is the age of every bank and the last panel, which is none at rest.
 use Rattle.std.specs.Prelude.{ℕ, ◌+◌, ◌*◌, Bool, true, false, cond, ◌&&◌, Some, None, Option, ◌==◌, nat_le}
 use Rattle.rig.specs.Meaning.{Meaning}
+use Rattle.rig.specs.Guides.{Guide, Guided, guided}
 use Rattle.banks.specs.declared.table.BankTable.{BankTable}
 use Rattle.deadlines.specs.Deadlines.{deadline, earliest_due, some_overrun}
 use Rattle.readers.specs.declared.panelled.ReaderState.{ReaderState}
@@ -64,7 +65,7 @@ module _ (t : BankTable) where
 abbrev pub rest_state : ReaderState
 rest_state = record { ages = spread (λ i. 0); last = None }
 
--- the panelled reader of a table; a state is hopeless when its deadlines are overrun, settling left out, and the bank that is due first is picked
+-- the panelled reader of a table
 abbrev pub panelled : BankTable → Meaning ReaderState
 panelled t = record {
   moves = t.count;
@@ -75,6 +76,15 @@ panelled t = record {
   leads = state_after t;
   staleness = state_staleness t;
   ceiling = most_banks * most_gap + 1;
+}
+
+-- its guide: a state is hopeless when its deadlines are overrun, settling left out, and the bank that is due first is picked
+abbrev pub panelled_guide : BankTable → Guide ReaderState
+panelled_guide t = record {
   hopeless = λ s. some_overrun t (deadline t (age s));
   picks = λ s untried. earliest_due t.count (deadline t (age s)) untried;
 }
+
+-- the panelled reader with its guide
+abbrev pub guided_panelled : BankTable → Guided ReaderState
+guided_panelled t = guided (panelled t) (panelled_guide t)

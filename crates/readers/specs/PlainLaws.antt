@@ -1,15 +1,15 @@
--- The plain reader's tests decide their plain statements, and it shows the laws of rigs.
+-- The plain reader's tests decide their plain statements; it shows the laws of rigs, and its guide those of guides.
 use Rattle.std.specs.Prelude.{◌≡◌, ℕ, ◌<◌, true, ◌&&◌, Decides, nat_lt, refl}
 use Rattle.std.proofs.Common.{subst, sym, ◌∙◌, ⊎_elim, arith, lit<}
 use Rattle.std.proofs.lemmas.Bool.{both_ways, cases_Bool, cases_lt, cond-false, cond-true}
 use Rattle.std.proofs.lemmas.Bool.Decides.{Decides-and, Decides-like, Decides-ltb}
-use Rattle.rig.specs.Laws.{Laws}
-use Rattle.rig.specs.Meaning.{after, lawful}
+use Rattle.rig.specs.Meaning.{Laws, after, lawful}
+use Rattle.rig.specs.Guides.{GuideLaws}
 use Rattle.banks.specs.declared.table.BankTable.{BankTable}
 use Rattle.deadlines.specs.Deadlines.{deadline}
 use Rattle.readers.specs.declared.plain.PlainState.{PlainState}
 use Rattle.readers.specs.Ages.{Aged, AgesCover, AgesProper, InTime, age_sum, ages_cover, ages_proper, in_time}
-use Rattle.readers.specs.Plain.{PlainAfter, PlainLawful, plain, plain_age, plain_rest}
+use Rattle.readers.specs.Plain.{PlainAfter, PlainLawful, guided_plain, plain, plain_age, plain_rest}
 use Rattle.banks.proofs.Below.{every_decides, sum_le, sum_tight}
 use Rattle.readers.specs.AgeLaws.{ages_proper_decides, follows_aged, fresher_aged, in_time_decides, proper_aged, rest_ages, rest_cover, sum_within}
 use Rattle.readers.specs.DueChoice.{due_untried}
@@ -98,6 +98,10 @@ module _ (t : BankTable) where
         (λ less. less)
         (λ more. absurd (both_ways (ages_cover t (plain_age b) (plain_age a)) d ((plain_covers_decides b a).1 (sum_tight (plain_age a) (plain_age b) t.count ((plain_covers_decides a b).0 c) more))))
         (cases_lt (age_sum t (plain_age a)) (age_sum t (plain_age b)));
+  }
+
+  pub plain_guide_laws : GuideLaws (guided_plain t)
+  plain_guide_laws = record {
     hopeless_ends = λ s p h. overrun_ends t (plain t) plain_age (λ _ _. 0) dwelt s h;
-    choice_untried = λ s u j p. due_untried (plain t) s (deadline t (plain_age s)) u refl j;
+    choice_untried = λ s u j p. due_untried (guided_plain t) s (deadline t (plain_age s)) u refl j;
   }

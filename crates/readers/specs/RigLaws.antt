@@ -1,9 +1,9 @@
--- The panelled reader shows the laws of rigs.
+-- The panelled reader shows the laws of rigs, and its guide those of guides.
 use Rattle.std.specs.Prelude.{◌≡◌, ℕ, ◌+◌, ◌*◌, ◌<◌, ◌≤◌, true, refl}
 use Rattle.std.proofs.Common.{subst, sym, ◌∙◌, inl, inr, ⊎_elim, arith, lit<}
 use Rattle.std.proofs.lemmas.Bool.{both_ways, cases_lt}
-use Rattle.rig.specs.Laws.{Laws}
-use Rattle.rig.specs.Meaning.{after, lawful}
+use Rattle.rig.specs.Meaning.{Laws, after, lawful}
+use Rattle.rig.specs.Guides.{GuideLaws}
 use Rattle.banks.specs.declared.table.BankTable.{BankTable}
 use Rattle.deadlines.specs.Deadlines.{deadline}
 use Rattle.readers.specs.declared.panelled.ReaderState.{ReaderState}
@@ -11,7 +11,7 @@ use Rattle.sheets.specs.Limits.{most_banks}
 use Rattle.banks.specs.Limits.{most_gap}
 use Rattle.banks.specs.Table.{panel}
 use Rattle.readers.specs.Ages.{Aged}
-use Rattle.readers.specs.Panelled.{age, panelled, proper_state, rest_state, settling, state_after, state_covers, state_staleness}
+use Rattle.readers.specs.Panelled.{age, guided_panelled, panelled, proper_state, rest_state, settling, state_after, state_covers, state_staleness}
 use Rattle.readers.specs.Rules.{Covers, MoveLawful, Proper}
 use Rattle.banks.proofs.Below.{sum_le, sum_tight}
 use Rattle.readers.specs.AgeLaws.{fresher_aged, fresher_in_time, proper_aged, rest_ages, rest_cover, sum_within}
@@ -109,6 +109,10 @@ module _ (t : BankTable) where
         (λ less. less)
         (λ more. absurd (both_ways (state_covers t b a) d ((covers_decides t b a).1 (staleness_tight a b ((covers_decides t a b).0 c) more))))
         (cases_lt (state_staleness t a) (state_staleness t b));
+  }
+
+  pub guide_laws : GuideLaws (guided_panelled t)
+  guide_laws = record {
     hopeless_ends = λ s p h. overrun_ends t (panelled t) age settles dwelt s h;
-    choice_untried = λ s u j p. due_untried (panelled t) s (deadline t (age s)) u refl j;
+    choice_untried = λ s u j p. due_untried (guided_panelled t) s (deadline t (age s)) u refl j;
   }

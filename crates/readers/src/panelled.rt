@@ -1,10 +1,11 @@
 // The panelled reader: one reader behind an aerial switch that settles when the panel changes.
 ghost use Rattle.std.specs.Prelude.{◌≡◌, ℕ, ◌<◌, true, Decides, nat_eq};
-ghost use Rattle.rig.specs.Meaning.{after, choice, lawful};
+ghost use Rattle.rig.specs.Meaning.{after, lawful};
+ghost use Rattle.rig.specs.Guides.{choice};
 ghost use Rattle.rig.specs.Orders.{Endless, Order};
 ghost use Rattle.rig.specs.Sets.{in_set};
 ghost use Rattle.deadlines.specs.Deadlines.{DueFirst, NoneMeets, NoneUntried, deadline, some_overrun};
-ghost use Rattle.readers.specs.Panelled.{age, panel_covers, panel_proper, panelled, proper_state, settling, state_covers};
+ghost use Rattle.readers.specs.Panelled.{age, guided_panelled, panel_covers, panel_proper, panelled, panelled_guide, proper_state, settling, state_covers};
 ghost use Rattle.readers.specs.Rules.{Covers, Proper, TellsAfter, TellsLawful};
 ghost use lib.Pointwise.{pointwise};
 ghost use Rattle.std.specs.Option.{option_eq};
@@ -12,12 +13,12 @@ ghost use Rattle.std.specs.Ordering.{on, eq_of_both};
 ghost use Rattle.std.specs.Cmp.Rules.{comparing};
 ghost use Rattle.std.proofs.Common.{rules};
 ghost use Rattle.std.specs.Cmp as Keys;
-ghost use Rattle.readers.specs.RigLaws.{laws};
+ghost use Rattle.readers.specs.RigLaws.{guide_laws, laws};
 
 use crate::ages::{Ages, age_sum, ages_after, ages_cover, ages_proper, in_time};
 use banks::{BankTable, MOST_GAP};
 use deadlines::{choose, is_hopeless};
-use rig::{Moves, Rig};
+use rig::{GuidedRig, Moves, Rig};
 use sheets::{MOST_BANKS, MOST_PANEL};
 
 // The greatest sum of ages of a proper state, and one more for its last panel.
@@ -137,6 +138,12 @@ impl Rig for PanelledReader {
     fn ceiling(&self) -> u32 {
         MOST_STALENESS
     }
+}
+
+impl GuidedRig for PanelledReader {
+    ghost guide = { λ r. panelled_guide r.table };
+
+    ghost guide_shown = { λ r. guide_laws r.table };
 
     // Whether no order of all banks, each once, meets the deadlines; then no endless lawful order begins in a proper state.
     fn hopeless(&self, s: &ReaderState) -> bool
@@ -149,7 +156,7 @@ impl Rig for PanelledReader {
 
     // The untried bank with the least deadline, the lowest number among equals; 0 where no bank is untried.
     fn choose(&self, s: &ReaderState, untried: &Moves) -> u8
-        ensures value { result ≡ choice (panelled self.now.table) s.now (in_set untried.now.held) }
+        ensures value { result ≡ choice (guided_panelled self.now.table) s.now (in_set untried.now.held) }
         ensures some { (i : ℕ) → i < self.now.table.count → in_set untried.now.held i ≡ true → DueFirst self.now.table.count (deadline self.now.table (age s.now)) (in_set untried.now.held) result }
         ensures none { NoneUntried self.now.table.count (in_set untried.now.held) → result ≡ 0 }
     {

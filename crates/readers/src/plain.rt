@@ -1,23 +1,24 @@
 // The plain reader: one reader whose aerial needs no settling.
 ghost use Rattle.std.specs.Prelude.{◌≡◌, ℕ, ◌<◌, true, Decides, nat_eq};
-ghost use Rattle.rig.specs.Meaning.{after, choice, lawful};
+ghost use Rattle.rig.specs.Meaning.{after, lawful};
+ghost use Rattle.rig.specs.Guides.{choice};
 ghost use Rattle.rig.specs.Orders.{Endless, Order};
 ghost use Rattle.rig.specs.Sets.{in_set};
 ghost use Rattle.deadlines.specs.Deadlines.{DueFirst, NoneMeets, NoneUntried, deadline, some_overrun};
 ghost use Rattle.readers.specs.Ages.{AgesCover, AgesProper, ages_cover, ages_proper};
-ghost use Rattle.readers.specs.Plain.{PlainAfter, PlainLawful, plain, plain_age};
+ghost use Rattle.readers.specs.Plain.{PlainAfter, PlainLawful, guided_plain, plain, plain_age, plain_guide};
 ghost use lib.Pointwise.{pointwise};
 ghost use Rattle.std.specs.Ordering.{on};
 ghost use Rattle.std.specs.Cmp.Rules.{comparing};
 ghost use Rattle.std.proofs.Common.{rules};
 ghost use Rattle.std.specs.Cmp as Keys;
-ghost use Rattle.readers.specs.PlainLaws.{plain_laws};
+ghost use Rattle.readers.specs.PlainLaws.{plain_guide_laws, plain_laws};
 
 use crate::ages::{Ages, age_sum, ages_after, ages_cover, ages_proper, in_time};
 use crate::panelled::MOST_STALENESS;
 use banks::BankTable;
 use deadlines::{choose, is_hopeless};
-use rig::{Moves, Rig};
+use rig::{GuidedRig, Moves, Rig};
 use sheets::MOST_BANKS;
 
 // The age of every bank.
@@ -115,6 +116,12 @@ impl Rig for PlainReader {
     fn ceiling(&self) -> u32 {
         MOST_STALENESS
     }
+}
+
+impl GuidedRig for PlainReader {
+    ghost guide = { λ r. plain_guide r.table };
+
+    ghost guide_shown = { λ r. plain_guide_laws r.table };
 
     // Whether no order of all banks, each once, meets the deadlines; then no endless lawful order begins in a proper state.
     fn hopeless(&self, s: &PlainState) -> bool
@@ -127,7 +134,7 @@ impl Rig for PlainReader {
 
     // The untried bank with the least deadline, the lowest number among equals; 0 where no bank is untried.
     fn choose(&self, s: &PlainState, untried: &Moves) -> u8
-        ensures value { result ≡ choice (plain self.now.table) s.now (in_set untried.now.held) }
+        ensures value { result ≡ choice (guided_plain self.now.table) s.now (in_set untried.now.held) }
         ensures some { (i : ℕ) → i < self.now.table.count → in_set untried.now.held i ≡ true → DueFirst self.now.table.count (deadline self.now.table (plain_age s.now)) (in_set untried.now.held) result }
         ensures none { NoneUntried self.now.table.count (in_set untried.now.held) → result ≡ 0 }
     {

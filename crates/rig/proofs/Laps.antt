@@ -3,8 +3,7 @@ use Rattle.std.proofs.Common.{◌≡◌, ℕ, zero, suc, ◌+◌, ◌-◌, ◌*�
 use native.Mathlib.Nat.{mul-add-mod_self_right}
 use lib.Arith.{digits_div, digits_mod}
 use Rattle.std.proofs.lemmas.Bool.{cases_lt, cases_order, both_ways}
-use Rattle.rig.specs.Meaning.{Meaning, lawful}
-use Rattle.rig.specs.Laws.{Laws}
+use Rattle.rig.specs.Meaning.{Meaning, Laws, lawful}
 use Rattle.rig.specs.Orders.{reached, LawfulTo, again, LawfulForEver}
 use Rattle.rig.specs.Checks.{list_order, lap_state, closes, LapRan, LapStopped, OnlyMoves, FirstClosing, FirstUnlawful, FirstNoMove, ListFault, told}
 use Rattle.rig.specs.Checks.ListFault.{no_move_at, unlawful_at}

@@ -3,7 +3,7 @@ use Rattle.std.proofs.Common.{◌≡◌, ℕ, ◌<◌, Bool, true, false, cond, 
 use Rattle.std.proofs.lemmas.Bool.{both_ways, cases_lt, cond_both, cond-true, lt-ltb}
 use Rattle.std.proofs.lemmas.Bool.Decides.{Decides-below_or}
 use Rattle.std.proofs.lemmas.List.{get_or_past}
-use Rattle.rig.specs.Meaning.{Meaning, choice}
+use Rattle.rig.specs.Guides.{Guided, choice}
 use Rattle.rig.specs.Sets.{in_set, most_moves, some_below}
 
 -- a member taken out of a set
@@ -26,12 +26,12 @@ unfolding some_below
 some_decides u n = Decides-below_or u (λ k. u k ≡ true) (λ k. some_below k u) (λ k. (λ e. e, λ e. e)) refl (λ _. refl) n
 
 -- the choice is the rig's own pick where some move is untried, and 0 where none is
-module _ {S : Type 0} (m : Meaning S) (s : S) (u : ℕ → Bool) where
-  pub choice_picks : (j : ℕ) → j < m.moves → u j ≡ true → choice m s u ≡ m.picks s u
-  choice_picks j h x = cond-true (some_below m.moves u) (m.picks s u) 0 ((some_decides u m.moves).1 (j, h, x))
+module _ {S : Type 0} (m : Guided S) (s : S) (u : ℕ → Bool) where
+  pub choice_picks : (j : ℕ) → j < m.rig.moves → u j ≡ true → choice m s u ≡ m.guide.picks s u
+  choice_picks j h x = cond-true (some_below m.rig.moves u) (m.guide.picks s u) 0 ((some_decides u m.rig.moves).1 (j, h, x))
 
-  pub choice_none : ((j : ℕ) → j < m.moves → u j ≡ true → ⊥) → choice m s u ≡ 0
+  pub choice_none : ((j : ℕ) → j < m.rig.moves → u j ≡ true → ⊥) → choice m s u ≡ 0
   choice_none none =
-      cond_both (some_below m.moves u) (m.picks s u) 0 (λ x. x ≡ 0)
-      (λ e. let some = (some_decides u m.moves).0 e in absurd (none some.0 some.1 some.2))
+      cond_both (some_below m.rig.moves u) (m.guide.picks s u) 0 (λ x. x ≡ 0)
+      (λ e. let some = (some_decides u m.rig.moves).0 e in absurd (none some.0 some.1 some.2))
       (λ _. refl)

@@ -1,8 +1,7 @@
 -- Runs of orders: what a prefix reaches, and that a fresher state can do what a staler one can.
 use Rattle.std.proofs.Common.{◌≡◌, ℕ, zero, suc, ◌+◌, ◌<◌, ◌≤◌, true, refl, ap, ◌∙◌, ap₂, add-zero, add-suc, add-one, arith, below_more}
 use Rattle.std.proofs.lemmas.Bool.{and_parts, ltb-true}
-use Rattle.rig.specs.Meaning.{Meaning, lawful, after}
-use Rattle.rig.specs.Laws.{Laws}
+use Rattle.rig.specs.Meaning.{Meaning, Laws, lawful, after}
 use Rattle.rig.specs.Orders.{Order, reached, LawfulTo}
 
 module _ {S : Type 0} (m : Meaning S) where

@@ -1,6 +1,6 @@
 pub mod Sets
 pub mod Meaning
 pub mod Orders
-pub mod Laws
+pub mod Guides
 pub mod Checks
 pub mod Verdicts

@@ -1,9 +1,7 @@
--- What a rig is: a machine with numbered moves, by what it replies.
-use Rattle.std.specs.Prelude.{ℕ, Bool, cond, ◌&&◌, nat_lt}
-use Rattle.rig.specs.Sets.{some_below}
+-- What a rig is: a machine with numbered moves, by what it replies, and the laws that every rig shows.
+use Rattle.std.specs.Prelude.{◌≡◌, ℕ, ◌^◌, ◌<◌, ◌≤◌, Bool, true, false, cond, ◌&&◌, nat_lt}
 
--- A rig's replies, as functions of the state. `allows` and `leads` are asked only of a proper state and a number that is a move,
--- and `picks` only where some move is untried.
+-- A rig's replies, as functions of the state. `allows` and `leads` are asked only of a proper state and a number that is a move.
 pub record Meaning (S : Type 0) : Type 0 where
   -- how many moves there are; they are numbered from 0
   pub moves : ℕ
@@ -20,10 +18,6 @@ pub record Meaning (S : Type 0) : Type 0 where
   -- a rank that grows as a state gets staler, and its greatest value
   pub staleness : S → ℕ
   pub ceiling : ℕ
-  -- whether the rig tells that no endless lawful order begins in a state
-  pub hopeless : S → Bool
-  -- the rig's own pick from a set of untried moves
-  pub picks : S → (ℕ → Bool) → ℕ
 
 module _ {S : Type 0} (m : Meaning S) where
   -- A move is lawful in a proper state where the number is a move and the rig allows it: nothing else is lawful.
@@ -34,6 +28,20 @@ module _ {S : Type 0} (m : Meaning S) where
   abbrev pub after : S → ℕ → S
   after s j = cond (lawful s j) (m.leads s j) m.rest
 
-  -- The move to try next in a state, of a set of untried ones: the rig's own pick, or 0 where no move is untried.
-  abbrev pub choice : S → (ℕ → Bool) → ℕ
-  choice s untried = cond (some_below m.moves untried) (m.picks s untried) 0
+-- The laws, of proper states only.
+pub record Laws {S : Type 0} (m : Meaning S) : Type 0 where
+  -- rest is proper, and lawful moves stay proper
+  pub rest_proper : m.proper m.rest ≡ true
+  pub stays_proper : (s : S) (j : ℕ) → m.proper s ≡ true → lawful m s j ≡ true → m.proper (after m s j) ≡ true
+  -- covering is reflexive and transitive, and rest covers every proper state
+  pub covers_itself : (s : S) → m.proper s ≡ true → m.covers s s ≡ true
+  pub covers_onward : (a b c : S) → m.proper a ≡ true → m.proper b ≡ true → m.proper c ≡ true → m.covers a b ≡ true → m.covers b c ≡ true → m.covers a c ≡ true
+  pub rest_covers : (s : S) → m.proper s ≡ true → m.covers m.rest s ≡ true
+  -- a fresher state can do what a staler one can, and stays fresher
+  pub fresher_can : (a b : S) (j : ℕ) → m.proper a ≡ true → m.proper b ≡ true → m.covers a b ≡ true → lawful m b j ≡ true → lawful m a j ≡ true
+  pub stays_fresher : (a b : S) (j : ℕ) → m.proper a ≡ true → m.proper b ≡ true → m.covers a b ≡ true → lawful m b j ≡ true → m.covers (after m a j) (after m b j) ≡ true
+  -- staleness stays under its ceiling, and respects covering and its strictness
+  pub ceiling_low : m.ceiling < 2 ^ 21
+  pub staleness_capped : (s : S) → m.proper s ≡ true → m.staleness s ≤ m.ceiling
+  pub staleness_respects : (a b : S) → m.proper a ≡ true → m.proper b ≡ true → m.covers a b ≡ true → m.staleness a ≤ m.staleness b
+  pub staleness_strict : (a b : S) → m.proper a ≡ true → m.proper b ≡ true → m.covers a b ≡ true → m.covers b a ≡ false → m.staleness a < m.staleness b

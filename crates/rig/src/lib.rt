@@ -3,15 +3,15 @@
 #![tactic(auto)]
 
 ghost use Rattle.std.specs.Prelude.{◌≡◌, ℕ, ◌<◌, ◌≤◌, true, Decides};
-ghost use Rattle.rig.specs.Meaning.{Meaning, lawful, after, choice};
-ghost use Rattle.rig.specs.Laws.{Laws};
-ghost use Rattle.rig.specs.Sets.{in_set};
+ghost use Rattle.rig.specs.Meaning.{Meaning, Laws, lawful, after};
 
 mod check;
+mod guided;
 mod moves;
 mod verdict;
 
 pub use check::{Unfit, check_list};
+pub use guided::GuidedRig;
 pub use moves::Moves;
 pub use verdict::Verdict;
 
@@ -57,14 +57,6 @@ pub trait Rig {
 
     fn ceiling(&self) -> u32
         ensures { result ≡ (means self.now).ceiling };
-
-    // True only where no endless lawful order begins: told of proper states.
-    fn hopeless(&self, s: &Self::State) -> bool
-        ensures { (means self.now).proper s.now ≡ true → result ≡ (means self.now).hopeless s.now };
-
-    // The move to try next of those untried, 0 where none is: told of proper states.
-    fn choose(&self, s: &Self::State, untried: &Moves) -> u8
-        ensures { (means self.now).proper s.now ≡ true → result ≡ choice (means self.now) s.now (in_set untried.now.held) };
 
     // What each rig proves of its proper states.
     ghost shown: { (r : Self) → Laws (means r) };

@@ -5,12 +5,12 @@ use crate::script::{LineFault, Script, ScriptFault, Step, read_script};
 use anyhow::anyhow;
 use banks::BankTable;
 use readers::{PanelledReader, PlainReader};
-use rig::Rig;
+use rig::GuidedRig;
 use search::{Call, Reply, Row, Uncopied, run_calls};
 use std::io;
 
 // A reader that is made of a bank table.
-trait TableReader: Rig {
+trait TableReader: GuidedRig {
     fn of_table(table: BankTable) -> Self;
 }
 

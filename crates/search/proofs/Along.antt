@@ -6,7 +6,7 @@ use Rattle.std.proofs.lemmas.List.Elements.{All-pop}
 use Rattle.std.proofs.lemmas.List.{drop-append-le, drop-drop, drop-set-lt, length-append, length-drop, length-set, length-take-le, nil_from_length, take_all, take-append-le, take_more, take_more_set}
 use Rattle.std.proofs.lemmas.Slice.{drop-put_mid, take-put_mid}
 use Rattle.std.proofs.lemmas.List.Sums.{fold_push, sum_by-cons, sum_by_more, sum_by_push, sum_by-take-le}
-use Rattle.rig.specs.Meaning.{Meaning}
+use Rattle.rig.specs.Guides.{Guided}
 use Rattle.search.specs.declared.copy.Uncopied.{Uncopied}
 use Rattle.search.specs.declared.calls.Call.{Call}
 use Rattle.search.specs.declared.calls.Call.TheVariants.{Grant, Verdict, Copy, Wipe}
@@ -75,7 +75,7 @@ module _ {R S : Type 0} where
     did_used since (Copy n) h used is = omega (arith, ap (λ x. x.taken) h.3, used (sym (ap (λ x. x.standing) h.3) ∙ is), sum_by_push visits_of since (Copy n))
     did_used since Wipe h used is = ap (λ x. x.taken) h.1
 
-    module _ (means : R → Meaning S) (m : Meaning S) (since : List (Call R)) where
+    module _ (means : R → Guided S) (m : Guided S) (since : List (Call R)) where
       more_sound : (c : Call R) → granted_after (granted since) c ≡ granted since + visits_of c → ((n : ℕ) → Brings means m c → Sound m n b.rows b.taken b.standing → Sound m (granted_after n c) b'.rows b'.taken b'.standing) → (All (Brings means m) since → Sound m (granted since) b.rows b.taken b.standing) → All (Brings means m) (since ++ c ∷ []) → Sound m (granted (since ++ c ∷ [])) b'.rows b'.taken b'.standing
       more_sound c is step before all =
           let parts = all_unpush (Brings means m) since c all in
@@ -88,7 +88,7 @@ module _ {R S : Type 0} where
       did_sound Wipe did step before all = sound_fresh m b'.rows b'.taken b'.standing (ap (λ x. x.taken) did.1) (ap (λ x. x.standing) did.1)
 
 -- After k calls, whose buffers take the first bytes up to `at`.
-pub record Along {R S : Type 0} (means : R → Meaning S) (rows : List (Row S)) (calls : List (Call R)) (replies : List Reply) (room : List ℕ) (k at : ℕ) (b : BookState S) (replies' : List Reply) (room' : List ℕ) : Type 0 where
+pub record Along {R S : Type 0} (means : R → Guided S) (rows : List (Row S)) (calls : List (Call R)) (replies : List Reply) (room : List ℕ) (k at : ℕ) (b : BookState S) (replies' : List Reply) (room' : List ℕ) : Type 0 where
   pub runs : Runs (fresh rows) (take k calls) (take k replies') (take at room) (take at room') b
   pub at_is : at ≡ buffers (take k calls)
   pub no_more : drop k replies' ≡ drop k replies
@@ -98,9 +98,9 @@ pub record Along {R S : Type 0} (means : R → Meaning S) (rows : List (Row S)) 
   pub table : length b.rows ≡ length rows
   pub counted : b.taken ≡ visits_told (take k replies')
   pub used : b.standing ≡ Open → b.taken ≡ granted (since_wipe (take k calls))
-  pub sound : (m : Meaning S) → All (Brings means m) (since_wipe (take k calls)) → Sound m (granted (since_wipe (take k calls))) b.rows b.taken b.standing
+  pub sound : (m : Guided S) → All (Brings means m) (since_wipe (take k calls)) → Sound m (granted (since_wipe (take k calls))) b.rows b.taken b.standing
 
-pub along_start : {R S : Type 0} (means : R → Meaning S) (rows : List (Row S)) (calls : List (Call R)) (replies : List Reply) (room : List ℕ) → Along means rows calls replies room 0 0 (fresh rows) replies room
+pub along_start : {R S : Type 0} (means : R → Guided S) (rows : List (Row S)) (calls : List (Call R)) (replies : List Reply) (room : List ℕ) → Along means rows calls replies room 0 0 (fresh rows) replies room
 along_start means rows calls replies room = record {
   runs = refl;
   at_is = refl;
@@ -114,7 +114,7 @@ along_start means rows calls replies room = record {
   sound = λ m all. sound_fresh m rows 0 Open refl refl;
 }
 
-module _ {R S : Type 0} {means : R → Meaning S} {rows : List (Row S)} {calls : List (Call R)} {replies : List Reply} {room : List ℕ} {k at : ℕ} {b : BookState S} {replies₁ : List Reply} {room₁ : List ℕ} (h : Along means rows calls replies room k at b replies₁ room₁) (c : Call R) (within : k < length calls) (read : c ≡ get_or calls k c) (enough : length calls ≤ length replies) (end : ℕ) (ends : end ≡ at + buffer_of c) (fits : end ≤ length room) (r : Reply) (out' : List ℕ) (b' : BookState S) (same : length out' ≡ length (between at end room₁)) (did : Did c r (between at end room₁) out' b b') where
+module _ {R S : Type 0} {means : R → Guided S} {rows : List (Row S)} {calls : List (Call R)} {replies : List Reply} {room : List ℕ} {k at : ℕ} {b : BookState S} {replies₁ : List Reply} {room₁ : List ℕ} (h : Along means rows calls replies room k at b replies₁ room₁) (c : Call R) (within : k < length calls) (read : c ≡ get_or calls k c) (enough : length calls ≤ length replies) (end : ℕ) (ends : end ≡ at + buffer_of c) (fits : end ≤ length room) (r : Reply) (out' : List ℕ) (b' : BookState S) (same : length out' ≡ length (between at end room₁)) (did : Did c r (between at end room₁) out' b b') where
   grown : take (k + 1) calls ≡ take k calls ++ c ∷ []
   grown = take_more calls k c within ∙ ap (λ x. take k calls ++ x ∷ []) (sym read)
 
@@ -135,7 +135,7 @@ module _ {R S : Type 0} {means : R → Meaning S} {rows : List (Row S)} {calls :
   after : take end (put_mid at (end - at) room₁ out') ≡ take at room₁ ++ out'
   after = take-put_mid at (end - at) room₁ out' end (omega (arith, same, size, ends)) (omega (arith, h.long, ends))
 
-  pub along_more : ((m : Meaning S) (n : ℕ) → Brings means m c → Sound m n b.rows b.taken b.standing → Sound m (granted_after n c) b'.rows b'.taken b'.standing) → Along means rows calls replies room (k + 1) end b' (set replies₁ k r) (put_mid at (end - at) room₁ out')
+  pub along_more : ((m : Guided S) (n : ℕ) → Brings means m c → Sound m n b.rows b.taken b.standing → Sound m (granted_after n c) b'.rows b'.taken b'.standing) → Along means rows calls replies room (k + 1) end b' (set replies₁ k r) (put_mid at (end - at) room₁ out')
   along_more step =
       let room₂ = put_mid at (end - at) room₁ out' in
       let low : at ≤ length room = omega (arith, ends) in
@@ -165,7 +165,7 @@ module _ {R S : Type 0} {means : R → Meaning S} {rows : List (Row S)} {calls :
       }
 
 -- where the next buffer ends, and what is left behind all buffers
-module _ {R S : Type 0} {means : R → Meaning S} {rows : List (Row S)} {calls : List (Call R)} {replies : List Reply} {room : List ℕ} {k at : ℕ} {b : BookState S} {replies₁ : List Reply} {room₁ : List ℕ} (h : Along means rows calls replies room k at b replies₁ room₁) (enough : bytes_needed (length rows) calls ≤ length room) where
+module _ {R S : Type 0} {means : R → Guided S} {rows : List (Row S)} {calls : List (Call R)} {replies : List Reply} {room : List ℕ} {k at : ℕ} {b : BookState S} {replies₁ : List Reply} {room₁ : List ℕ} (h : Along means rows calls replies room k at b replies₁ room₁) (enough : bytes_needed (length rows) calls ≤ length room) where
   pub along_fits : (c : Call R) → k < length calls → c ≡ get_or calls k c → at + buffer_of c ≤ length room
   along_fits c within read = omega (arith, h.at_is, sum_by_more buffer_of calls k c within, ap buffer_of read, sum_by-take-le buffer_of calls (k + 1))
 

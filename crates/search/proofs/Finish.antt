@@ -4,7 +4,7 @@ use borrow.Rule.Slice.PartMut.{put_mid}
 use Rattle.std.specs.List.{between}
 use Rattle.std.proofs.lemmas.List.{append-nil, drop_all, drop_at, length-drop, length-take-le, take_all, take_rest}
 use Rattle.std.proofs.lemmas.Slice.{take-put_mid_below}
-use Rattle.rig.specs.Meaning.{Meaning}
+use Rattle.rig.specs.Guides.{Guided}
 use Rattle.search.specs.declared.calls.Call.{Call}
 use Rattle.search.specs.declared.calls.Outcome.{Outcome}
 use Rattle.search.specs.declared.calls.Reply.{Reply}
@@ -18,7 +18,7 @@ use Rattle.search.specs.Promised.{Always, Promised}
 use Rattle.search.proofs.Along.{Along}
 use Rattle.search.proofs.Promised.{always, promised}
 
-module _ {R S : Type 0} {means : R → Meaning S} {rows : List (Row S)} {calls : List (Call R)} {replies : List Reply} {room : List ℕ} {at : ℕ} {b : BookState S} {replies₁ : List Reply} {room₁ : List ℕ} (h : Along means rows calls replies room (length calls) at b replies₁ room₁) (low : at ≤ length room₁) (x : Outcome) (out : List ℕ) (says : x.verdict ≡ verdict_of b.standing) (took : x.taken ≡ b.taken) (where-from : x.from ≡ at) (last : LastCopied b (between at (length room₁) room₁) x.round out) where
+module _ {R S : Type 0} {means : R → Guided S} {rows : List (Row S)} {calls : List (Call R)} {replies : List Reply} {room : List ℕ} {at : ℕ} {b : BookState S} {replies₁ : List Reply} {room₁ : List ℕ} (h : Along means rows calls replies room (length calls) at b replies₁ room₁) (low : at ≤ length room₁) (x : Outcome) (out : List ℕ) (says : x.verdict ≡ verdict_of b.standing) (took : x.taken ≡ b.taken) (where-from : x.from ≡ at) (last : LastCopied b (between at (length room₁) room₁) x.round out) where
   abbrev room₂ : List ℕ
   room₂ = put_mid at (length room₁ - at) room₁ out
 
@@ -64,7 +64,7 @@ module _ {R S : Type 0} {means : R → Meaning S} {rows : List (Row S)} {calls :
     pub ran_always : (b.standing ≡ Full → b.taken ≡ usable (length b.rows)) → b.taken ≤ usable (length b.rows) → Always rows' (granted (since_wipe calls)) (take (length calls) replies₁) x
     ran_always full within = subst (λ xs. Always xs (granted (since_wipe calls)) (take (length calls) replies₁) x) (sym table) (always b.rows b.taken within (drop (buffers calls) room) (drop (buffers calls) room₂) b.standing (granted (since_wipe calls)) x (take (length calls) replies₁) (λ is. h.used is ∙ ap (λ cs. granted (since_wipe cs)) all_calls) full says took h.counted copied)
 
-    pub ran_promised : b.taken ≤ usable (length b.rows) → (m : Meaning S) → All (Brings means m) (since_wipe calls) → Promised m (granted (since_wipe calls)) rows' (drop (buffers calls) room₂) x
+    pub ran_promised : b.taken ≤ usable (length b.rows) → (m : Guided S) → All (Brings means m) (since_wipe calls) → Promised m (granted (since_wipe calls)) rows' (drop (buffers calls) room₂) x
     ran_promised within m all =
         let sound = subst (λ cs. All (Brings means m) (since_wipe cs) → Sound m (granted (since_wipe cs)) b.rows b.taken b.standing) all_calls (h.sound m) all in
         subst (λ xs. Promised m (granted (since_wipe calls)) xs (drop (buffers calls) room₂) x) (sym table)

@@ -1,7 +1,7 @@
 -- A grant at work: what each step leaves, whatever the rig.
 use Rattle.std.proofs.Common.{◌≡◌, ℕ, ◌+◌, ◌<◌, ◌≤◌, List, map, length, get_or, take, drop, set, sym, refl, ap, ◌∙◌, subst, ap₂, arith}
 use Rattle.std.proofs.lemmas.List.{drop-drop, drop-set-lt, get_or-map, length-set, map-set, set-get_or, take-set-le}
-use Rattle.rig.specs.Meaning.{Meaning}
+use Rattle.rig.specs.Guides.{Guided}
 use Rattle.search.specs.declared.row.Row.{Row}
 use Rattle.search.specs.declared.step.Standing.{Standing}
 use Rattle.search.specs.declared.step.Standing.TheVariants.{Open}
@@ -19,7 +19,7 @@ pub record Working {S : Type 0} (visits made : ℕ) (rows : List (Row S)) (n : �
   pub long : length rows' ≡ length rows
 
 module _ {S : Type 0} where
-  module _ (m : Meaning S) (visits made : ℕ) (rows : List (Row S)) (n : ℕ) (rows' : List (Row S)) (n' : ℕ) (w : Working visits made rows n rows' n') where
+  module _ (m : Guided S) (visits made : ℕ) (rows : List (Row S)) (n : ℕ) (rows' : List (Row S)) (n' : ℕ) (w : Working visits made rows n rows' n') where
     settle : (at : ℕ) (row : Row S) → n' ≤ length rows' → Settles m rows' n' at row → Working visits made rows n (set rows' at row) n'
     settle at row within h =
         let low : at < length rows' = omega (arith, h.ends.0) in

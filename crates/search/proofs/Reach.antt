@@ -1,8 +1,7 @@
 -- Reached states, and states from which nothing endless begins.
 use Rattle.std.proofs.Common.{◌≡◌, ℕ, zero, suc, ◌+◌, ◌*◌, ◌<◌, ◌≤◌, true, cond, eqb, List, length, sym, refl, ap, ◌∙◌, subst, ap₂, not-suc-le-zero, mul-le-mul, zero-mul, add-one, arith}
 use Rattle.std.proofs.lemmas.Bool.{eq-eqb, ne_eqb}
-use Rattle.rig.specs.Meaning.{Meaning, lawful, after}
-use Rattle.rig.specs.Laws.{Laws}
+use Rattle.rig.specs.Meaning.{Meaning, Laws, lawful, after}
 use Rattle.rig.specs.Orders.{Order, reached, LawfulTo, again, LawfulForEver}
 use Rattle.rig.specs.Checks.{LapRan, lap_state, list_order}
 use Rattle.rig.proofs.Runs.{Fresher, fresher_lawful, fresher_onward, fresher_reached, lawful_more, reached_agree, reached_more, reached_proper, rest_fresher}

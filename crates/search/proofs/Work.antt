@@ -4,7 +4,7 @@ use lib.Seq.{take-set-lt}
 use Rattle.std.proofs.lemmas.List.{get_or-take, length-set, length-take-le, take_more_set}
 use Rattle.std.proofs.lemmas.List.Sums.{sum_by_push, sum_by-set}
 use Rattle.std.proofs.lemmas.Bool.{and_right, cases_eq, eq-eqb, ne_eqb}
-use Rattle.rig.specs.Meaning.{Meaning}
+use Rattle.rig.specs.Guides.{Guided}
 use Rattle.rig.specs.Sets.{most_moves}
 use Rattle.search.specs.declared.row.Row.{Row}
 use Rattle.search.specs.Rows.{untried_in, usable}
@@ -60,7 +60,7 @@ module _ {S : Type 0} where
   unfoldable pub work : List (Row S) → ℕ → ℕ
   work rows n = (usable (length rows) - n) * 33 + sum_by left_in (take n rows)
 
-  module _ (m : Meaning S) (rows : List (Row S)) (n : ℕ) where
+  module _ (m : Guided S) (rows : List (Row S)) (n : ℕ) where
     settle : (at : ℕ) (row : Row S) → n ≤ length rows → Settles m rows n at row → work (set rows at row) n < work rows n
     unfolding work
     settle at row within h =

@@ -1,6 +1,6 @@
 -- Lists of calls on one book: what each call does, and which count since the last wipe.
 use Rattle.std.specs.Prelude.{◌≡◌, ℕ, ◌+◌, ◌<◌, ◌≤◌, min, List, [], ◌∷◌, ◌++◌, length, take, drop, Some, None, Ok, Err, fold, sum_by, Option, Result}
-use Rattle.rig.specs.Meaning.{Meaning}
+use Rattle.rig.specs.Guides.{Guided}
 use Rattle.search.specs.declared.calls.Call.{Call}
 use Rattle.search.specs.declared.calls.Call.TheVariants.{Grant, Verdict, Copy, Wipe}
 use Rattle.search.specs.declared.calls.Outcome.{Outcome}
@@ -83,7 +83,7 @@ module _ {R : Type 0} where
   granted calls = sum_by visits_of calls
 
   -- A grant brings a rig of this meaning.
-  abbrev pub Brings : {S : Type 0} → (R → Meaning S) → Meaning S → Call R → Type 0
+  abbrev pub Brings : {S : Type 0} → (R → Guided S) → Guided S → Call R → Type 0
   Brings means m (Grant rig visits) = means rig ≡ m
   Brings means m Verdict = Unit {0}
   Brings means m (Copy n) = Unit {0}

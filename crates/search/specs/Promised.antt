@@ -1,6 +1,6 @@
 -- What is promised of the outcome of a list of calls.
 use Rattle.std.specs.Prelude.{◌≡◌, ℕ, ◌≤◌, ◌⊎◌, List, length, take, drop, Some, Ok, Err, All, Result}
-use Rattle.rig.specs.Meaning.{Meaning}
+use Rattle.rig.specs.Guides.{Guided}
 use Rattle.rig.specs.Orders.{LawfulForEver}
 use Rattle.rig.specs.declared.verdict.Verdict.TheVariants.{NoRound, Round, Open, Full}
 use Rattle.search.specs.declared.calls.Call.{Call}
@@ -23,25 +23,25 @@ pub record Always {S : Type 0} (rows : List (Row S)) (granted : ℕ) (replies : 
   pub copied : x.verdict ≡ Round → (n : ℕ) × (x.round ≡ Some n)
 
 -- If the grants since the last wipe bring rigs of one meaning, and so many visits in all; the bytes begin with the round that was copied.
-pub record Promised {S : Type 0} (m : Meaning S) (granted : ℕ) (rows : List (Row S)) (bytes : List ℕ) (x : Outcome) : Type 0 where
+pub record Promised {S : Type 0} (m : Guided S) (granted : ℕ) (rows : List (Row S)) (bytes : List ℕ) (x : Outcome) : Type 0 where
   -- each row taken holds a different state, reached by a lawful order
   pub different : Different (states rows x.taken)
-  pub reached : All (Reached m) (states rows x.taken)
+  pub reached : All (Reached m.rig) (states rows x.taken)
   -- it says none only where no endless order, repeating or not, is lawful from rest
-  pub none_is_true : x.verdict ≡ NoRound → NoEndless m m.rest
+  pub none_is_true : x.verdict ≡ NoRound → NoEndless m.rig m.rig.rest
   pub none_is_closed : x.verdict ≡ NoRound → Closed m (states rows x.taken)
   -- the round is lawful for ever
-  pub round_is_good : (n : ℕ) → x.round ≡ Some n → LawfulForEver m (take n bytes)
-  pub round_closes : (n : ℕ) → x.round ≡ Some n → Closing m (states rows x.taken) (take n bytes)
+  pub round_is_good : (n : ℕ) → x.round ≡ Some n → LawfulForEver m.rig (take n bytes)
+  pub round_closes : (n : ℕ) → x.round ≡ Some n → Closing m.rig (states rows x.taken) (take n bytes)
   -- where lawful orders reach at most k states, k rows and k visits suffice
-  pub enough_decides : (k : ℕ) → k ≤ most_rows → AtMost m k → k ≤ length rows → k ≤ granted → (x.verdict ≡ NoRound) ⊎ (x.verdict ≡ Round)
+  pub enough_decides : (k : ℕ) → k ≤ most_rows → AtMost m.rig k → k ≤ length rows → k ≤ granted → (x.verdict ≡ NoRound) ⊎ (x.verdict ≡ Round)
 
-module _ {R S : Type 0} (means : R → Meaning S) (rows : List (Row S)) (calls : List (Call R)) (replies : List Reply) (room : List ℕ) (rows' : List (Row S)) (replies' : List Reply) (room' : List ℕ) where
+module _ {R S : Type 0} (means : R → Guided S) (rows : List (Row S)) (calls : List (Call R)) (replies : List Reply) (room : List ℕ) (rows' : List (Row S)) (replies' : List Reply) (room' : List ℕ) where
   -- The list was run, with this outcome; and what is promised of it, for every meaning that all grants since the last wipe bring.
   pub record Completed (x : Outcome) : Type 0 where
     pub ran : Ran rows calls replies room rows' replies' room' x
     pub always : Always rows' (granted (since_wipe calls)) (take (length calls) replies') x
-    pub promised : (m : Meaning S) → All (Brings means m) (since_wipe calls) → Promised m (granted (since_wipe calls)) rows' (drop (buffers calls) room') x
+    pub promised : (m : Guided S) → All (Brings means m) (since_wipe calls) → Promised m (granted (since_wipe calls)) rows' (drop (buffers calls) room') x
 
   -- What a list of calls comes to: it was run, or there was no room for it.
   abbrev pub Searched : Result Outcome Short → Type 0

@@ -1,6 +1,7 @@
 -- What a search promises of a rig, in terms of its meaning: of the states that the rows taken hold, and of the round.
 use Rattle.std.specs.Prelude.{◌≡◌, ℕ, ◌<◌, ◌≤◌, true, ◌⊎◌, List, length, All, Contains, ◌≢◌, slice_index_or}
 use Rattle.rig.specs.Meaning.{Meaning, lawful, after}
+use Rattle.rig.specs.Guides.{Guided}
 use Rattle.rig.specs.Orders.{Order, reached, LawfulTo, Endless}
 use Rattle.rig.specs.Checks.{LapRan, list_order}
 
@@ -26,11 +27,6 @@ module _ {S : Type 0} (m : Meaning S) where
   abbrev pub NoEndless : S → Type 0
   NoEndless s = (o : Order) → Endless m s o → ⊥
 
-  -- Rest is hopeless or held, and each lawful move from a held state leads to a hopeless state or to one that a held state covers.
-  pub record Closed (held : List S) : Type 0 where
-    pub rest_lost : (m.hopeless m.rest ≡ true) ⊎ Contains held m.rest
-    pub moves_lost : All (λ s. (j : ℕ) → lawful m s j ≡ true → (m.hopeless (after m s j) ≡ true) ⊎ ((k : S) × Contains held k × (m.covers k (after m s j) ≡ true))) held
-
   -- The round is lawful from a held state, each of its moves begins in a held state, and it ends in a state that covers the first.
   pub record Closing (held : List S) (round : List ℕ) : Type 0 where
     pub some_move : 0 < length round
@@ -40,3 +36,8 @@ module _ {S : Type 0} (m : Meaning S) where
     pub runs : LapRan m first round last
     pub along : (k : ℕ) → k < length round → Contains held (reached m first (list_order round) k)
     pub closes : m.covers last first ≡ true
+
+-- Rest is hopeless or held, and each lawful move from a held state leads to a hopeless state or to one that a held state covers.
+pub record Closed {S : Type 0} (m : Guided S) (held : List S) : Type 0 where
+  pub rest_lost : (m.guide.hopeless m.rig.rest ≡ true) ⊎ Contains held m.rig.rest
+  pub moves_lost : All (λ s. (j : ℕ) → lawful m.rig s j ≡ true → (m.guide.hopeless (after m.rig s j) ≡ true) ⊎ ((k : S) × Contains held k × (m.rig.covers k (after m.rig s j) ≡ true))) held

@@ -5,14 +5,14 @@ ghost use Rattle.search.specs.Steps.{Stepped};
 ghost use Rattle.search.specs.Grants.{Granted, verdict_of};
 ghost use Rattle.search.specs.Kept.{Sound};
 ghost use Rattle.search.specs.Copies.{Copied};
-ghost use Rattle.rig.specs.Meaning.{Meaning};
+ghost use Rattle.rig.specs.Guides.{Guided, guided};
 ghost use Rattle.search.specs.declared.step.Standing.TheVariants.{Full, Open, Round};
 
 use crate::copy::Uncopied;
 use crate::round::{path_length, write_round};
 use crate::row::Row;
 use crate::step::{Standing, Step, next_step};
-use rig::{Rig, Verdict};
+use rig::{GuidedRig, Verdict};
 
 // A book over a lent table of rows: it has taken the first `taken` of them.
 #[derive(Drop)]
@@ -32,7 +32,7 @@ impl<'a, S: Copy + Drop> Book<'a, S> {
         ensures rows { result.rows.now ≡ rows.old }
         ensures taken { result.taken ≡ 0 }
         ensures standing { result.standing ≡ Open }
-        ensures sound { (m : Meaning S) → Sound m 0 result.rows.now result.taken result.standing }
+        ensures sound { (m : Guided S) → Sound m 0 result.rows.now result.taken result.standing }
     {
         Book {
             rows,
@@ -47,7 +47,7 @@ impl<'a, S: Copy + Drop> Book<'a, S> {
         ensures rows { self.new.rows.now ≡ self.old.rows.now }
         ensures taken { self.new.taken ≡ 0 }
         ensures standing { self.new.standing ≡ Open }
-        ensures sound { (m : Meaning S) → Sound m 0 self.new.rows.now self.new.taken self.new.standing }
+        ensures sound { (m : Guided S) → Sound m 0 self.new.rows.now self.new.taken self.new.standing }
     {
         self.taken = 0;
         self.standing = Standing::Open;
@@ -83,8 +83,8 @@ impl<'a, S: Copy + Drop> Book<'a, S> {
     }
 
     // What to do next, if the book is open.
-    fn next<R: Rig<State = S>>(&self, rig: &R, left: u32) -> Step<S>
-        ensures { Stepped (R.Rig.means rig.now) self.now.rows.now self.now.taken left result }
+    fn next<R: GuidedRig<State = S>>(&self, rig: &R, left: u32) -> Step<S>
+        ensures { Stepped (guided (R.Rig.means rig.now) (R.GuidedRig.guide rig.now)) self.now.rows.now self.now.taken left result }
     {
         let rows = &*self.rows;
         next_step(rig, rows, self.taken, left)
@@ -102,11 +102,11 @@ impl<'a, S: Copy + Drop> Book<'a, S> {
     }
 
     // Goes on with the search for at most so many visits; tells the verdict and the visits made.
-    pub fn grant<R: Rig<State = S>>(&mut self, rig: &R, visits: u32) -> (Verdict, u32)
+    pub fn grant<R: GuidedRig<State = S>>(&mut self, rig: &R, visits: u32) -> (Verdict, u32)
         ensures lends { self.new.rows.ghost_name ≡ self.old.rows.ghost_name }
         ensures told { result.0 ≡ verdict_of self.new.standing }
         ensures left { Granted visits result.1 self.old.rows.now self.old.taken self.old.standing self.new.rows.now self.new.taken self.new.standing }
-        ensures sound { (granted : ℕ) → Sound (R.Rig.means rig.now) granted self.old.rows.now self.old.taken self.old.standing → Sound (R.Rig.means rig.now) (granted + visits) self.new.rows.now self.new.taken self.new.standing }
+        ensures sound { (granted : ℕ) → Sound (guided (R.Rig.means rig.now) (R.GuidedRig.guide rig.now)) granted self.old.rows.now self.old.taken self.old.standing → Sound (guided (R.Rig.means rig.now) (R.GuidedRig.guide rig.now)) (granted + visits) self.new.rows.now self.new.taken self.new.standing }
     {
         let Standing::Open = self.standing else {
             return (self.verdict().0, 0);

@@ -1,6 +1,6 @@
 // Runs a list of calls on a book that it makes.
 ghost use Rattle.std.specs.Prelude.{◌≡◌, ℕ, ◌*◌, ◌^◌, ◌<◌, ◌≤◌, length, MatchOption};
-ghost use Rattle.rig.specs.Meaning.{Meaning};
+ghost use Rattle.rig.specs.Guides.{Guided, guided};
 ghost use Rattle.search.specs.Kept.{Sound};
 ghost use Rattle.search.specs.Rows.{usable as usable-of};
 ghost use Rattle.search.specs.Grants.{verdict_of};
@@ -11,7 +11,7 @@ use crate::book::Book;
 use crate::calls::{Call, Outcome, Reply, Short};
 use crate::row::Row;
 use crate::step::usable;
-use rig::Rig;
+use rig::GuidedRig;
 
 // The length of the buffer that a call brings.
 fn buffer<R>(call: &Call<R>) -> usize
@@ -36,10 +36,10 @@ fn all_buffers<R>(calls: &[Call<R>]) -> u128
 }
 
 // Makes one call, with its buffer.
-fn make_call<R: Rig>(book: &mut Book<R::State>, call: &Call<R>, out: &mut [u8]) -> Reply
+fn make_call<R: GuidedRig>(book: &mut Book<R::State>, call: &Call<R>, out: &mut [u8]) -> Reply
     ensures lends { book.new.rows.ghost_name ≡ book.old.rows.ghost_name }
     ensures did { Did call.now result out.old out.new (book_state book.old.rows.now book.old.taken book.old.standing) (book_state book.new.rows.now book.new.taken book.new.standing) }
-    ensures sound { (m : Meaning R.State) (n : ℕ) → Brings R.Rig.means m call.now → Sound m n book.old.rows.now book.old.taken book.old.standing → Sound m (granted_after n call.now) book.new.rows.now book.new.taken book.new.standing }
+    ensures sound { (m : Guided R.State) (n : ℕ) → Brings (λ r. guided (R.Rig.means r) (R.GuidedRig.guide r)) m call.now → Sound m n book.old.rows.now book.old.taken book.old.standing → Sound m (granted_after n call.now) book.new.rows.now book.new.taken book.new.standing }
 {
     match call {
         Call::Grant { rig, visits } => {
@@ -107,13 +107,13 @@ fn outcome<S: Copy + Drop>(book: &Book<S>, from: usize, out: &mut [u8]) -> Outco
 // copies, in their order; then the verdict is asked, and the round is copied behind the buffers. It is refused, with nothing changed,
 // where the room is too short: first where there are fewer replies than calls, then where the bytes are fewer than all buffers
 // and the longest round take. Which of the two it is, the refusal says.
-pub fn run_calls<R: Rig>(
+pub fn run_calls<R: GuidedRig>(
     rows: &mut [Row<R::State>],
     calls: &[Call<R>],
     replies: &mut [Reply],
     room: &mut [u8],
 ) -> Result<Outcome, Short>
-    ensures { Searched R.Rig.means rows.old calls.now replies.old room.old rows.new replies.new room.new result }
+    ensures { Searched (λ r. guided (R.Rig.means r) (R.GuidedRig.guide r)) rows.old calls.now replies.old room.old rows.new replies.new room.new result }
 {
     if let Some(short) = lacking(rows.len(), calls, replies.len(), room.len()) {
         return Err(short);

@@ -1,12 +1,13 @@
 // One step of a search: what to do next, without doing it.
 ghost use Rattle.std.specs.Prelude.{◌≡◌, ℕ, ◌<◌, ◌≤◌, true, length, Some, MatchOption, nat_lt};
+ghost use Rattle.rig.specs.Guides.{guided};
 ghost use Rattle.rig.specs.Sets.{in_set};
 ghost use Rattle.search.specs.Rows.{Latest, on_path, untried_in, usable as usable-of};
 ghost use Rattle.search.specs.Steps.{Dead, Next, Stepped};
 
 use crate::row::{Row, lowest};
 use crate::scan::{is_dead, latest_covered, path_end};
-use rig::{Moves, Rig};
+use rig::{GuidedRig, Moves, Rig};
 
 // The most rows that a book uses.
 pub const MOST_ROWS: usize = 65536;
@@ -52,7 +53,7 @@ fn all_moves<R: Rig>(rig: &R) -> Moves
 }
 
 // Enters a state, to which a move leads; none where the state is dead.
-fn enter<R: Rig>(
+fn enter<R: GuidedRig>(
     rig: &R,
     rows: &[Row<R::State>],
     taken: usize,
@@ -61,9 +62,9 @@ fn enter<R: Rig>(
     by: u8,
 ) -> Option<Step<R::State>>
     requires within { taken ≤ usable-of (length rows.now) }
-    requires next { Next (R.means rig.now) rows.now taken by state }
+    requires next { Next (guided (R.means rig.now) (R.guide rig.now)) rows.now taken by state }
     requires proper { (R.means rig.now).proper state ≡ true }
-    ensures { MatchOption result (Dead (R.means rig.now) rows.now taken state) (λ x. Stepped (R.means rig.now) rows.now taken left x) }
+    ensures { MatchOption result (Dead (guided (R.means rig.now) (R.guide rig.now)) rows.now taken state) (λ x. Stepped (guided (R.means rig.now) (R.guide rig.now)) rows.now taken left x) }
 {
     if rig.hopeless(&state) {
         return None;
@@ -93,7 +94,7 @@ fn enter<R: Rig>(
 }
 
 // The rig's choice among the untried moves of a row; where that is none of them, the lowest.
-fn chosen<R: Rig>(rig: &R, row: &Row<R::State>) -> u8
+fn chosen<R: GuidedRig>(rig: &R, row: &Row<R::State>) -> u8
     requires { on_path row.now ≡ true }
     ensures { untried_in row.now result ≡ true }
 {
@@ -105,8 +106,8 @@ fn chosen<R: Rig>(rig: &R, row: &Row<R::State>) -> u8
 }
 
 // A fresh book enters rest.
-fn first_step<R: Rig>(rig: &R, rows: &[Row<R::State>], left: u32) -> Step<R::State>
-    ensures { Stepped (R.means rig.now) rows.now 0 left result }
+fn first_step<R: GuidedRig>(rig: &R, rows: &[Row<R::State>], left: u32) -> Step<R::State>
+    ensures { Stepped (guided (R.means rig.now) (R.guide rig.now)) rows.now 0 left result }
 {
     match enter(rig, rows, 0, left, rig.rest(), 0) {
         Some(step) => step,
@@ -117,7 +118,7 @@ fn first_step<R: Rig>(rig: &R, rows: &[Row<R::State>], left: u32) -> Step<R::Sta
 }
 
 // Tries the chosen move at the end of the path.
-fn try_move<R: Rig>(
+fn try_move<R: GuidedRig>(
     rig: &R,
     rows: &[Row<R::State>],
     taken: usize,
@@ -126,7 +127,7 @@ fn try_move<R: Rig>(
 ) -> Step<R::State>
     requires within { taken ≤ usable-of (length rows.now) }
     requires end { Latest on_path rows.now taken (Some at) }
-    ensures { Stepped (R.means rig.now) rows.now taken left result }
+    ensures { Stepped (guided (R.means rig.now) (R.guide rig.now)) rows.now taken left result }
 {
     let row = rows[at];
     let by = chosen(rig, &row);
@@ -149,14 +150,14 @@ fn try_move<R: Rig>(
 }
 
 // What an open book does next.
-pub(crate) fn next_step<R: Rig>(
+pub(crate) fn next_step<R: GuidedRig>(
     rig: &R,
     rows: &[Row<R::State>],
     taken: usize,
     left: u32,
 ) -> Step<R::State>
     requires { taken ≤ usable-of (length rows.now) }
-    ensures { Stepped (R.means rig.now) rows.now taken left result }
+    ensures { Stepped (guided (R.means rig.now) (R.guide rig.now)) rows.now taken left result }
 {
     if taken == 0 {
         return first_step(rig, rows, left);

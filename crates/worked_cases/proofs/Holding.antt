@@ -7,8 +7,8 @@ use Rattle.rig.specs.Sets.{some_below}
 use Rattle.banks.specs.declared.table.BankTable.{BankTable}
 use Rattle.banks.specs.Places.{every_below, spread, sum_below}
 use Rattle.banks.proofs.Makers.{within, table}
-use Rattle.readers.specs.Panelled.{panelled}
-use Rattle.readers.specs.Plain.{plain}
+use Rattle.readers.specs.Panelled.{guided_panelled}
+use Rattle.readers.specs.Plain.{guided_plain}
 use Rattle.readers.specs.RigLaws.{laws}
 use Rattle.readers.specs.PlainLaws.{plain_laws}
 use Rattle.worked_cases.specs.Cases.{Case, Claim, Established, Numbers, Reader, TrueOfReader, worked_cases}
@@ -16,13 +16,13 @@ use Rattle.worked_cases.specs.Cases.Reader.{plain_reader, panelled_reader}
 use Rattle.worked_cases.proofs.Claims.{test, claim_true}
 
 reader_test : Reader → BankTable → Claim → Bool
-reader_test plain_reader t = test (plain t)
-reader_test panelled_reader t = test (panelled t)
+reader_test plain_reader t = test (guided_plain t)
+reader_test panelled_reader t = test (guided_panelled t)
 
 reader_true : (r : Reader) (t : BankTable) (c : Claim) → reader_test r t c ≡ true → TrueOfReader r t c
 unfolding reader_test
-reader_true plain_reader t = claim_true (plain t) (plain_laws t)
-reader_true panelled_reader t = claim_true (panelled t) (laws t)
+reader_true plain_reader t = claim_true (guided_plain t) (plain_laws t)
+reader_true panelled_reader t = claim_true (guided_panelled t) (laws t)
 
 table_numbers : (c : Case) (good : within c.settle c.banks ≡ true) → Numbers c.settle c.banks (table c.settle c.banks good)
 unfolding table

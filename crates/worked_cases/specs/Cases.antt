@@ -1,14 +1,14 @@
 -- Worked cases of the rules, in plain numbers, and what it is for a case to be true.
 use Rattle.std.specs.Prelude.{◌≡◌, ℕ, ◌-◌, true, List, [], ◌∷◌, ◌++◌, length, replicate}
-use Rattle.rig.specs.Meaning.{Meaning}
+use Rattle.rig.specs.Guides.{Guided}
 use Rattle.rig.specs.Orders.{LawfulForEver}
 use Rattle.rig.specs.Checks.{FirstUnlawful}
 use Rattle.sheets.specs.Limits.{most_banks}
 use Rattle.banks.specs.declared.table.Bank.{Bank}
 use Rattle.banks.specs.declared.table.BankTable.{BankTable}
 use Rattle.banks.specs.Limits.{no_bank}
-use Rattle.readers.specs.Panelled.{panelled}
-use Rattle.readers.specs.Plain.{plain}
+use Rattle.readers.specs.Panelled.{guided_panelled}
+use Rattle.readers.specs.Plain.{guided_plain}
 
 -- The reader that a case is about.
 pub data Reader : Type 0 where
@@ -37,16 +37,16 @@ pub record Numbers (settle : ℕ) (banks : List Bank) (t : BankTable) : Type 0 w
   pub same_count : t.count ≡ length banks
   pub same_banks : t.banks ≡ banks ++ replicate (most_banks - length banks) no_bank
 
--- The claim is true of a rig.
-abbrev pub TrueOf : {S : Type 0} → Meaning S → Claim → Type 0
-TrueOf m (accepted xs) = LawfulForEver m xs
-TrueOf m (stopped xs lap position) = FirstUnlawful m xs lap position
-TrueOf m rest_hopeless = m.hopeless m.rest ≡ true
+-- The claim is true of a rig with its guide.
+abbrev pub TrueOf : {S : Type 0} → Guided S → Claim → Type 0
+TrueOf m (accepted xs) = LawfulForEver m.rig xs
+TrueOf m (stopped xs lap position) = FirstUnlawful m.rig xs lap position
+TrueOf m rest_hopeless = m.guide.hopeless m.rig.rest ≡ true
 
 -- The claim is true of a table's reader.
 abbrev pub TrueOfReader : Reader → BankTable → Claim → Type 0
-TrueOfReader plain_reader t = TrueOf (plain t)
-TrueOfReader panelled_reader t = TrueOf (panelled t)
+TrueOfReader plain_reader t = TrueOf (guided_plain t)
+TrueOfReader panelled_reader t = TrueOf (guided_panelled t)
 
 -- There is a table with the numbers of the case, and what the case says is true of its reader.
 pub record Established (c : Case) : Type 0 where

@@ -1,4 +1,5 @@
 use Rattle.std.proofs.Common.{sym, ap, ◌∙◌, subst}
+use Rattle.rig.specs.Guides.{guided}
 use Rattle.banks.specs.FromSheet.{TableOf}
 use Rattle.running.specs.Told.{reply_at}
 use Rattle.planner.specs.Plans.{RunsOn}
@@ -8,7 +9,7 @@ use Rattle.planner.proofs.planned.plan.Goals as goal
 pub round_to_run-round-requires : goal.round_to_run-round-requires
 round_to_run-round-requires g c =
     let run = c.run_calls-outcome in
-    round_fits g.R.Rig.means c.args.rows.now c.args.calls.now c.args.replies.now c.args.room.now run.new.rows run.new.replies run.new.room run.auto.room run.result run.ensures
+    round_fits (λ r. guided (g.R.Rig.means r) (g.R.GuidedRig.guide r)) c.args.rows.now c.args.calls.now c.args.replies.now c.args.room.now run.new.rows run.new.replies run.new.room run.auto.room run.result run.ensures
 
 pub returns : goal.returns
 returns g c =

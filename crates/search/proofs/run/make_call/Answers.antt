@@ -1,12 +1,13 @@
 use Rattle.std.proofs.Common.{◌≡◌, ◌+◌, sym, refl, ap, ◌∙◌, subst, ap₂}
 use Rattle.search.specs.declared.calls.Reply.TheVariants as reply
+use Rattle.rig.specs.Guides.{guided}
 use Rattle.search.specs.Kept.{Sound}
 use Rattle.search.specs.Calls.{Brings, Did, book_state, granted_after}
 use Rattle.search.proofs.run.make_call.Goals as goal
 
 pub returns-in-Grant : goal.returns-in-Grant
 returns-in-Grant g c =
-    let means = g.R.Rig.means in
+    let means = λ (r : g.row.R.Denot). guided (g.R.Rig.means r) (g.R.GuidedRig.guide r) in
     let book = c.args.book.now in
     let after = c.grant-verdict.new.self in
     let is = c.in-Grant.is in

@@ -1,5 +1,6 @@
 use Rattle.std.proofs.Common.{◌≡◌, ◌+◌, ◌≤◌, length, sym, refl, ap, ◌∙◌, subst, ap₂, arith, rules}
 use Rattle.std.proofs.lemmas.List.{length-drop, take_rest}
+use Rattle.rig.specs.Guides.{guided}
 use Rattle.search.specs.Rows.{usable}
 use Rattle.search.specs.Calls.{book_state, bytes_needed, fresh}
 use Rattle.search.proofs.Along.{Along, along_fits, along_left, along_more, along_start}
@@ -9,11 +10,11 @@ use Rattle.search.proofs.run.run_calls.Goals as goal
 pub loop-k-init : goal.loop-k-init
 loop-k-init g c =
     let book = c.new-book.result in
-    let start = along_start g.R.Rig.means book.rows.now c.args.calls.now c.args.replies.now c.args.room.now in
+    let start = along_start (λ r. guided (g.R.Rig.means r) (g.R.GuidedRig.guide r)) book.rows.now c.args.calls.now c.args.replies.now c.args.room.now in
     let same : fresh book.rows.now ≡ book_state book.rows.now book.taken book.standing = ap₂ (book_state book.rows.now) (sym c.new-book.ensures.taken) (sym c.new-book.ensures.standing) in (
       refl,
       (subst (λ xs. bytes_needed (length xs) c.args.calls.now ≤ length c.args.room.now) (sym c.new-book.ensures.rows) c.in_default.ensures.1),
-      subst (λ b. Along g.R.Rig.means book.rows.now c.args.calls.now c.args.replies.now c.args.room.now 0 0 b c.args.replies.now c.args.room.now) same start,
+      subst (λ b. Along (λ r. guided (g.R.Rig.means r) (g.R.GuidedRig.guide r)) book.rows.now c.args.calls.now c.args.replies.now c.args.room.now 0 0 b c.args.replies.now c.args.room.now) same start,
     )
 
 pub overflow_add-end : goal.overflow_add-end
@@ -52,7 +53,7 @@ outcome-requires g c =
 
 pub returns : goal.returns
 returns g c =
-    let means = g.R.Rig.means in
+    let means = λ (r : g.row.R.Denot). guided (g.R.Rig.means r) (g.R.GuidedRig.guide r) in
     let calls = c.args.calls.now in
     let book = c.loop-k.book in
     let b = book_state book.rows.now book.taken book.standing in

@@ -1,7 +1,7 @@
 use Rattle.std.proofs.Common.{sym, ◌∙◌}
 use Rattle.readers.specs.Meanings.{proper_decides}
-use Rattle.readers.specs.RigLaws.{laws}
-use Rattle.readers.proofs.panelled.PanelledReaderRig.hopeless.Goals as goal
+use Rattle.readers.specs.RigLaws.{guide_laws}
+use Rattle.readers.proofs.panelled.PanelledReaderGuidedRig.hopeless.Goals as goal
 
 pub returns : goal.returns
 returns c =
@@ -11,5 +11,5 @@ returns c =
     record {
       value = same;
       never = c.is_hopeless.ensures.never;
-      ends = λ p e. (laws t).hopeless_ends s ((proper_decides t s).1 p) (sym same ∙ e);
+      ends = λ p e. (guide_laws t).hopeless_ends s ((proper_decides t s).1 p) (sym same ∙ e);
     }

@@ -1,8 +1,8 @@
 use Rattle.std.proofs.Common.{sym, ◌∙◌}
 use Rattle.readers.specs.Plain.{plain_age}
 use Rattle.readers.specs.AgeLaws.{ages_proper_decides}
-use Rattle.readers.specs.PlainLaws.{plain_laws}
-use Rattle.readers.proofs.plain.PlainReaderRig.hopeless.Goals as goal
+use Rattle.readers.specs.PlainLaws.{plain_guide_laws}
+use Rattle.readers.proofs.plain.PlainReaderGuidedRig.hopeless.Goals as goal
 
 pub returns : goal.returns
 returns c =
@@ -12,5 +12,5 @@ returns c =
     record {
       value = same;
       never = c.is_hopeless.ensures.never;
-      ends = λ p e. (plain_laws t).hopeless_ends s ((ages_proper_decides t (plain_age s)).1 p) (sym same ∙ e);
+      ends = λ p e. (plain_guide_laws t).hopeless_ends s ((ages_proper_decides t (plain_age s)).1 p) (sym same ∙ e);
     }

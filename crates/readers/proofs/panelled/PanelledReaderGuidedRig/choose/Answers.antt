@@ -1,16 +1,16 @@
 use Rattle.std.proofs.Common.{sym, refl, ◌∙◌}
 use Rattle.rig.specs.Sets.{in_set}
 use Rattle.deadlines.specs.Deadlines.{deadline}
-use Rattle.readers.specs.Plain.{plain_age, plain}
+use Rattle.readers.specs.Panelled.{age, guided_panelled}
 use Rattle.readers.specs.DueChoice.{choice_due}
-use Rattle.readers.proofs.plain.PlainReaderRig.choose.Goals as goal
+use Rattle.readers.proofs.panelled.PanelledReaderGuidedRig.choose.Goals as goal
 
 pub returns : goal.returns
 returns c =
     let t = c.args.self.now.table in
     let s = c.args.s.now in
     record {
-      value = c.choose.ensures.value ∙ sym (choice_due (plain t) s (deadline t (plain_age s)) (in_set c.args.untried.now.held) refl);
+      value = c.choose.ensures.value ∙ sym (choice_due (guided_panelled t) s (deadline t (age s)) (in_set c.args.untried.now.held) refl);
       some = c.choose.ensures.some;
       none = c.choose.ensures.none;
     }
