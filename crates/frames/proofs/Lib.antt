@@ -3,5 +3,7 @@ pub mod Splits
 pub mod Shapes
 pub mod Readings
 pub mod BadLines
+pub mod BadLinesAmong
 pub mod OneFault
+pub mod OneFaultAmong
 pub mod LinesTo

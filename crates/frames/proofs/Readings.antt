@@ -6,7 +6,7 @@ use Rattle.frames.specs.declared.frame.Frame.{Frame}
 use Rattle.frames.specs.declared.frame.FrameFault.{FrameFault}
 use Rattle.frames.specs.declared.frame.FrameFault.TheVariants.{Digit, Shape}
 use Rattle.frames.specs.declared.faults.FileFault.{FileFault}
-use Rattle.frames.specs.declared.faults.FileFault.TheVariants.{Frame as InFrame, TooLong, Unclosed, AfterEnd, Misplaced, Field, Repeated, NoFeeder, Unlawful}
+use Rattle.frames.specs.declared.faults.FileFault.TheVariants.{Frame as InFrame, TooLong, Unclosed, AfterEnd, Misplaced, Field, Unlawful}
 use Rattle.frames.specs.Digits.{AllDigits, FirstNoDigit, numeral, column_of}
 use Rattle.frames.specs.Lines.{ClosedLine}
 use Rattle.frames.specs.Frames.{kind_of, body_of, Shaped, IsFrame, NoDigitIn, FrameFails, FrameRead, LineFails, NextFails}
@@ -67,8 +67,6 @@ good_line_read bytes line after k b c t s m n (Unclosed l) h = closed_closes byt
 good_line_read bytes line after k b c t s m n (AfterEnd l) h = h
 good_line_read bytes line after k b c t s m n (Misplaced l) h = h
 good_line_read bytes line after k b c t s m n (Field l o) h = h
-good_line_read bytes line after k b c t s m n (Repeated l) h = h
-good_line_read bytes line after k b c t s m n (NoFeeder l) h = h
 good_line_read bytes line after k b c t s m n (Unlawful l lap p) h = h
 
 -- What is read does not fail.
@@ -84,8 +82,6 @@ one_next_fault bytes n (InFrame d) TooLong h i = absurd i
 one_next_fault bytes n (InFrame d) (AfterEnd l) h i = absurd i
 one_next_fault bytes n (InFrame d) (Misplaced l) h i = absurd i
 one_next_fault bytes n (InFrame d) (Field l o) h i = absurd i
-one_next_fault bytes n (InFrame d) (Repeated l) h i = absurd i
-one_next_fault bytes n (InFrame d) (NoFeeder l) h i = absurd i
 one_next_fault bytes n (InFrame d) (Unlawful l lap p) h i = absurd i
 one_next_fault bytes n (Unclosed l) (InFrame e) h i = absurd (closed_closes bytes i.line i.after i.closed h.1)
 one_next_fault bytes n (Unclosed l) (Unclosed m) h i = ap Unclosed (h.0 ∙ sym i.0)
@@ -93,13 +89,9 @@ one_next_fault bytes n (Unclosed l) TooLong h i = absurd i
 one_next_fault bytes n (Unclosed l) (AfterEnd m) h i = absurd i
 one_next_fault bytes n (Unclosed l) (Misplaced m) h i = absurd i
 one_next_fault bytes n (Unclosed l) (Field m o) h i = absurd i
-one_next_fault bytes n (Unclosed l) (Repeated m) h i = absurd i
-one_next_fault bytes n (Unclosed l) (NoFeeder m) h i = absurd i
 one_next_fault bytes n (Unclosed l) (Unlawful m lap p) h i = absurd i
 one_next_fault bytes n TooLong b h i = absurd h
 one_next_fault bytes n (AfterEnd l) b h i = absurd h
 one_next_fault bytes n (Misplaced l) b h i = absurd h
 one_next_fault bytes n (Field l o) b h i = absurd h
-one_next_fault bytes n (Repeated l) b h i = absurd h
-one_next_fault bytes n (NoFeeder l) b h i = absurd h
 one_next_fault bytes n (Unlawful l lap p) b h i = absurd h

@@ -1,11 +1,11 @@
 -- The number and the values that each fault tells.
 use Rattle.refusals.specs.declared.Refusal.{Refusal}
-use Rattle.refusals.specs.Numbers.{no_digit, no_frame, out_of_place, bad_field, repeated_feeder, bare_bank, bad_end, not_lawful_in_file}
+use Rattle.refusals.specs.Numbers.{no_digit, no_frame, out_of_place, bad_field, bad_end, not_lawful_in_file}
 use Rattle.frames.specs.declared.digits.DigitFault.{DigitFault}
 use Rattle.frames.specs.declared.frame.FrameFault.{FrameFault}
 use Rattle.frames.specs.declared.frame.FrameFault.TheVariants.{Digit, Shape}
 use Rattle.frames.specs.declared.faults.FileFault.{FileFault}
-use Rattle.frames.specs.declared.faults.FileFault.TheVariants.{Frame as InFrame, TooLong, Unclosed, AfterEnd, Misplaced, Field, Repeated, NoFeeder, Unlawful}
+use Rattle.frames.specs.declared.faults.FileFault.TheVariants.{Frame as InFrame, TooLong, Unclosed, AfterEnd, Misplaced, Field, Unlawful}
 
 -- a fault of the digits
 abbrev pub digit_told : DigitFault → Refusal
@@ -24,6 +24,4 @@ file_told (Unclosed l) = bad_end l
 file_told (AfterEnd l) = bad_end l
 file_told (Misplaced l) = out_of_place l
 file_told (Field l c) = bad_field l c
-file_told (Repeated l) = repeated_feeder l
-file_told (NoFeeder l) = bare_bank l
 file_told (Unlawful l lap p) = not_lawful_in_file l lap p

@@ -6,7 +6,7 @@ use Rattle.frames.specs.declared.frame.Frame.TheVariants.{SheetHead, SheetBank, 
 use Rattle.frames.specs.declared.frame.FrameFault.{FrameFault}
 use Rattle.frames.specs.declared.frame.FrameFault.TheVariants.{Digit, Shape}
 use Rattle.frames.specs.declared.faults.FileFault.{FileFault}
-use Rattle.frames.specs.declared.faults.FileFault.TheVariants.{Frame as InFrame, TooLong, Unclosed, AfterEnd, Misplaced, Field, Repeated, NoFeeder, Unlawful}
+use Rattle.frames.specs.declared.faults.FileFault.TheVariants.{Frame as InFrame, TooLong, Unclosed, AfterEnd, Misplaced, Field, Unlawful}
 use Rattle.frames.specs.Digits.{AllDigits, numeral, value, FirstNoDigit, column_of}
 use Rattle.frames.specs.Lines.{NoneCloses, ClosedLine}
 
@@ -101,6 +101,4 @@ NextFails bytes line (Unclosed l) = (l ≡ line) × NoneCloses bytes
 NextFails bytes line (AfterEnd l) = ⊥
 NextFails bytes line (Misplaced l) = ⊥
 NextFails bytes line (Field l c) = ⊥
-NextFails bytes line (Repeated l) = ⊥
-NextFails bytes line (NoFeeder l) = ⊥
 NextFails bytes line (Unlawful l lap p) = ⊥

@@ -3,3 +3,4 @@ pub mod Lines
 pub mod Frames
 pub mod Faults
 pub mod BadLines
+pub mod BadLinesAmong

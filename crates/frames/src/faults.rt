@@ -32,14 +32,6 @@ pub enum FileFault {
         line: u32,
         column: u32,
     },
-    // The feeder number of this line stands on an earlier line too.
-    Repeated {
-        line: u32,
-    },
-    // The line counts the feeders, and a bank has none.
-    NoFeeder {
-        line: u32,
-    },
     // The stored dwells cannot be repeated for ever: the line is the last one.
     Unlawful {
         line: u32,
@@ -68,8 +60,6 @@ impl FileFault {
             FileFault::AfterEnd { line } => Refusal::in_file(7, line, 1),
             FileFault::Misplaced { line } => Refusal::in_file(3, line, 1),
             FileFault::Field { line, column } => Refusal::in_file(4, line, column),
-            FileFault::Repeated { line } => Refusal::in_file(5, line, 3),
-            FileFault::NoFeeder { line } => Refusal::in_file(6, line, 1),
             FileFault::Unlawful {
                 line,
                 lap,
@@ -120,11 +110,6 @@ impl fmt::Display for FileFault {
                 f,
                 "Line {line}, column {column}: the field is outside its limits."
             ),
-            FileFault::Repeated { .. } => write!(
-                f,
-                "Line {line}, column {column}: the feeder number stands on an earlier line too."
-            ),
-            FileFault::NoFeeder { .. } => write!(f, "Line {line}: a bank has no feeder."),
             FileFault::Unlawful { lap, position, .. } => {
                 write!(
                     f,

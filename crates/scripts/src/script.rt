@@ -3,8 +3,8 @@ ghost use Rattle.std.specs.Prelude.{◌<◌, ◌≤◌, length};
 
 use crate::lines::{count_lines, decimal, end_with, line_end};
 use banks::BankTable;
-use frames::{FileFault, LINE_END};
-use sheets::read_sheet;
+use frames::LINE_END;
+use sheets::{SheetFault, read_sheet};
 use std::alloc::{AllocError, AllocFailed, Global};
 
 // The limits of the numbers of a script.
@@ -47,7 +47,7 @@ pub(crate) enum LineFault {
 #[derive(Drop)]
 pub(crate) enum ScriptFault {
     Memory(AllocError),
-    Sheet(FileFault),
+    Sheet(SheetFault),
     Line { line: usize, what: LineFault },
 }
 

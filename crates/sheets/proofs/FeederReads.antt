@@ -11,8 +11,10 @@ use Rattle.frames.specs.Digits.{AllDigits, numeral}
 use Rattle.frames.specs.Lines.{most_bytes}
 use Rattle.frames.specs.Frames.{kind_of, body_of, FrameRead, NextFails}
 use Rattle.frames.specs.Faults.{file_told}
-use Rattle.frames.specs.BadLines.{field, BadLineAmong}
-use Rattle.frames.proofs.BadLines.{Reads, field_digits, next_field, end_field, next_fails_among, other_frame_among, bad_frame_among}
+use Rattle.frames.specs.BadLines.{field}
+use Rattle.frames.specs.BadLinesAmong.{BadLineAmong}
+use Rattle.frames.proofs.BadLines.{Reads, field_digits, next_field, end_field}
+use Rattle.frames.proofs.BadLinesAmong.{next_fails_among, other_frame_among, bad_frame_among}
 use Rattle.frames.proofs.LinesTo.{lines_none, one_line_more}
 use Rattle.sheets.specs.declared.feeder.Feeder.{Feeder}
 use Rattle.sheets.specs.Limits.{most_feeders}

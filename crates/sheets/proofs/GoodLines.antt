@@ -4,10 +4,12 @@ use Rattle.std.proofs.lemmas.Bool.Decides.{nat_tests}
 use Rattle.refusals.specs.declared.Refusal.{Refusal}
 use Rattle.frames.specs.Digits.{numeral, value}
 use Rattle.frames.specs.Frames.{digits_after, Shaped}
-use Rattle.frames.specs.BadLines.{field, BadLine, BadLineAmong}
+use Rattle.frames.specs.BadLines.{field, BadLine}
+use Rattle.frames.specs.BadLinesAmong.{BadLineAmong}
 use Rattle.frames.proofs.Numerals.{numeral_digits}
 use Rattle.frames.proofs.Splits.{same_split}
-use Rattle.frames.proofs.OneFault.{digits_append, value_small_numeral, GoodLine, good_line_not_bad, good_line_not_bad_among}
+use Rattle.frames.proofs.OneFault.{digits_append, value_small_numeral, GoodLine, good_line_not_bad}
+use Rattle.frames.proofs.OneFaultAmong.{good_line_not_bad_among}
 use Rattle.sheets.specs.declared.feeder.Feeder.{Feeder}
 use Rattle.sheets.specs.Limits.{most_panel, most_feeders}
 use Rattle.sheets.specs.Feeders.{FeederWithin}

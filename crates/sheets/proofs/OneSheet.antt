@@ -5,7 +5,8 @@ use Rattle.refusals.specs.declared.Refusal.{Refusal}
 use Rattle.frames.specs.Lines.{most_bytes}
 use Rattle.frames.specs.BadLines.{BadLine}
 use Rattle.frames.proofs.LinesTo.{length_lines, one_lines, next_line}
-use Rattle.frames.proofs.OneFault.{one_bad_line, one_bad_line_among}
+use Rattle.frames.proofs.OneFault.{one_bad_line}
+use Rattle.frames.proofs.OneFaultAmong.{one_bad_line_among}
 use Rattle.sheets.specs.declared.feeder.Feeder.{Feeder}
 use Rattle.sheets.specs.declared.sheet.Sheet.{Sheet}
 use Rattle.sheets.specs.Limits.{most_feeders}

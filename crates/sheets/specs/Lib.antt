@@ -1,3 +1,4 @@
+pub mod Faults
 pub mod Limits
 pub mod Feeders
 pub mod SheetLines

@@ -7,7 +7,8 @@ use Rattle.frames.specs.declared.faults.FileFault.TheVariants.{Field}
 use Rattle.frames.specs.Digits.{numeral}
 use Rattle.frames.specs.Frames.{line_of}
 use Rattle.frames.specs.Lines.{lines_to}
-use Rattle.frames.specs.BadLines.{field, outside, BadLine, BadLineAmong}
+use Rattle.frames.specs.BadLines.{field, outside, BadLine}
+use Rattle.frames.specs.BadLinesAmong.{BadLineAmong}
 use Rattle.sheets.specs.declared.feeder.Feeder.{Feeder}
 use Rattle.sheets.specs.Limits.{fewest_banks, most_banks, most_settle, most_panel, most_feeders, most_number, most_reading, most_swap, least_swap}
 use Rattle.sheets.specs.Feeders.{feeder_at, FeederWithin, EachWithin, Apart, NoneIn, AllServed}

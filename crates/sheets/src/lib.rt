@@ -1,6 +1,7 @@
 // Feeder sheets.
 #![tactic(auto)]
 
+mod faults;
 mod feeder;
 mod limits;
 mod lines;
@@ -10,6 +11,7 @@ mod sheet;
 #[cfg(test)]
 mod tests;
 
+pub use faults::SheetFault;
 pub use feeder::Feeder;
 pub use limits::{
     FEWEST_BANKS, MOST_BANKS, MOST_FEEDERS, MOST_NUMBER, MOST_PANEL, MOST_READING, MOST_SETTLE,

@@ -3,11 +3,13 @@ ghost use Rattle.std.specs.Prelude.{◌≡◌, ◌<◌, ◌≤◌, [], length, D
 ghost use Rattle.frames.specs.Digits.{AllDigits, numeral};
 ghost use Rattle.frames.specs.Faults.{file_told};
 ghost use Rattle.frames.specs.Lines.{most_bytes};
-ghost use Rattle.frames.specs.BadLines.{BadLineAmong};
+ghost use Rattle.frames.specs.BadLinesAmong.{BadLineAmong};
+ghost use Rattle.sheets.specs.Faults.{sheet_told};
 ghost use Rattle.sheets.specs.Limits.{most_feeders};
 ghost use Rattle.sheets.specs.Feeders.{AllServed, FeederWithin, HasBank, HasNumber, NoneIn};
 ghost use Rattle.sheets.specs.SheetLines.{feeder_body, feeder_fault, feeder_column, count_column, due_behind, column_behind, line_behind, ToldColumn, NextRead, ListRead, FeederFault};
 
+use crate::faults::SheetFault;
 use crate::feeder::Feeder;
 use crate::limits::{MOST_FEEDERS, MOST_NUMBER, MOST_READING, MOST_SWAP};
 use frames::{FileFault, Frame, next_frame, number_at};
@@ -152,9 +154,9 @@ fn bare_bank(feeders: &[Feeder], n: usize, banks: u8) -> Option<u8>
 }
 
 // The lines of the feeders up to the one that counts them, and the bytes after it.
-fn read_feeders(bytes: &[u8], banks: u8) -> Result<(FeederList, &[u8]), FileFault>
+fn read_feeders(bytes: &[u8], banks: u8) -> Result<(FeederList, &[u8]), SheetFault>
     requires { length bytes.now ≤ most_bytes }
-    ensures { MatchResult result (λ p. ListRead banks bytes.now p.0.feeders p.0.count p.1.now) (λ e. FeederFault banks bytes.now (file_told e)) }
+    ensures { MatchResult result (λ p. ListRead banks bytes.now p.0.feeders p.0.count p.1.now) (λ e. FeederFault banks bytes.now (sheet_told e)) }
 {
     let none = Feeder {
         number: 0,
@@ -171,7 +173,7 @@ fn read_feeders(bytes: &[u8], banks: u8) -> Result<(FeederList, &[u8]), FileFaul
             return Ok((FeederList { feeders, count }, after));
         };
         if has_number(&feeders, count, feeder.number) {
-            return Err(FileFault::Repeated {
+            return Err(SheetFault::Repeated {
                 line: line_behind(banks, count),
             });
         }
@@ -182,17 +184,17 @@ fn read_feeders(bytes: &[u8], banks: u8) -> Result<(FeederList, &[u8]), FileFaul
 }
 
 // All that comes behind the bank lines: the feeders, of which every bank has one, and nothing after their count.
-pub(crate) fn read_list(bytes: &[u8], banks: u8) -> Result<FeederList, FileFault>
+pub(crate) fn read_list(bytes: &[u8], banks: u8) -> Result<FeederList, SheetFault>
     requires { length bytes.now ≤ most_bytes }
-    ensures { MatchResult result (λ l. ListRead banks bytes.now l.feeders l.count [] × AllServed banks l.feeders l.count) (λ e. FeederFault banks bytes.now (file_told e)) }
+    ensures { MatchResult result (λ l. ListRead banks bytes.now l.feeders l.count [] × AllServed banks l.feeders l.count) (λ e. FeederFault banks bytes.now (sheet_told e)) }
 {
     let (list, after) = read_feeders(bytes, banks)?;
     let line = line_behind(banks, list.count);
     if let Some(_) = bare_bank(&list.feeders, list.count, banks) {
-        return Err(FileFault::NoFeeder { line });
+        return Err(SheetFault::NoFeeder { line });
     }
     if !after.is_empty() {
-        return Err(FileFault::AfterEnd { line: line + 1 });
+        return Err(SheetFault::File(FileFault::AfterEnd { line: line + 1 }));
     }
     Ok(list)
 }

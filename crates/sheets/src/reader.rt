@@ -1,21 +1,22 @@
 // Reads a sheet.
 ghost use Rattle.std.specs.Prelude.{◌≡◌, is_ok, Decides, MatchResult};
-ghost use Rattle.frames.specs.Faults.{file_told};
+ghost use Rattle.sheets.specs.Faults.{sheet_told};
 ghost use Rattle.sheets.specs.SheetText.{sheet_text, SomeSheet, FirstFault, OnlySheet, OnlyFault};
 
+use crate::faults::SheetFault;
 use crate::lines::{read_banks, read_head};
 use crate::list::read_list;
 use crate::sheet::Sheet;
 use frames::{FileFault, MOST_BYTES};
 
 // Reads a sheet from the bytes of a file.
-pub fn read_sheet(bytes: &[u8]) -> Result<Sheet, FileFault>
-    ensures reply { MatchResult result (λ s. bytes.now ≡ sheet_text s) (λ e. FirstFault bytes.now (file_told e)) }
+pub fn read_sheet(bytes: &[u8]) -> Result<Sheet, SheetFault>
+    ensures reply { MatchResult result (λ s. bytes.now ≡ sheet_text s) (λ e. FirstFault bytes.now (sheet_told e)) }
     ensures exact { Decides (is_ok result) (SomeSheet bytes.now) }
-    ensures only { MatchResult result (λ s. OnlySheet bytes.now s) (λ e. OnlyFault bytes.now (file_told e)) }
+    ensures only { MatchResult result (λ s. OnlySheet bytes.now s) (λ e. OnlyFault bytes.now (sheet_told e)) }
 {
     if bytes.len() > MOST_BYTES {
-        return Err(FileFault::TooLong);
+        return Err(SheetFault::File(FileFault::TooLong));
     }
     let (head, after) = read_head(bytes)?;
     let (panels, rest) = read_banks(after, head.banks)?;

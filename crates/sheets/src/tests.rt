@@ -10,7 +10,7 @@ fn needs(bytes: &[u8], bank: u8) -> Option<BankNeeds> {
 }
 
 // The fault of bytes that are no sheet.
-fn fault(bytes: &[u8]) -> Option<FileFault> {
+fn fault(bytes: &[u8]) -> Option<SheetFault> {
     read_sheet(bytes).err()
 }
 
@@ -58,25 +58,25 @@ fn several_feeders_in_a_bank(rt: HostRuntime) {
 fn faults(rt: HostRuntime) {
     assert_eq!(rt;
         fault(b"01020000\n020000\n020100\n0300010000020004\n"),
-        Some(FileFault::Field {
+        Some(SheetFault::File(FileFault::Field {
             line: 4,
             column: 13,
-        })
+        }))
     );
     assert_eq!(rt;
         fault(b"01020000\n020000\n020100\n040000\n"),
-        Some(FileFault::Misplaced { line: 4 })
+        Some(SheetFault::File(FileFault::Misplaced { line: 4 }))
     );
     assert_eq!(rt;
         fault(b"01020000\n020000\n020100\n0300010000020005\n0300020000020005\n0300010000020005\n"),
-        Some(FileFault::Repeated { line: 6 })
+        Some(SheetFault::Repeated { line: 6 })
     );
     assert_eq!(rt;
         fault(b"01020000\n020000\n020100\n0300010000020005\n040001\nx"),
-        Some(FileFault::NoFeeder { line: 5 })
+        Some(SheetFault::NoFeeder { line: 5 })
     );
     assert_eq!(rt;
         fault(b"01020000\n020000\n020100\n0300010000020005\n0300020100020005\n040002\nx"),
-        Some(FileFault::AfterEnd { line: 7 })
+        Some(SheetFault::File(FileFault::AfterEnd { line: 7 }))
     );
 }
