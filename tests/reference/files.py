@@ -60,8 +60,8 @@ def not_closed(line):
                    f"Line {line}: the line is lacking, or it is not closed by byte 0A.")
 
 
-def after_end(line):
-    return Refused(7, line, 1, f"Line {line}: something stands after the end of the round.")
+def after_end(line, what):
+    return Refused(7, line, 1, f"Line {line}: something stands after the end of the {what}.")
 
 
 def too_long():
@@ -117,10 +117,10 @@ class Lines:
             raise out_of_place(self.taken)
         return Frame(self.taken, kind, body)
 
-    def end(self):
-        """Refuses whatever is left."""
+    def end(self, what):
+        """Refuses whatever is left behind what was read."""
         if self.taken < len(self.closed) or self.tail:
-            raise after_end(self.taken + 1)
+            raise after_end(self.taken + 1, what)
 
 
 def body_length(kind, body):

@@ -59,7 +59,7 @@ def read_round(lines):
     fault = first_unlawful(table, order)
     if fault:
         raise files.not_lawful(lines.taken, *fault)
-    lines.end()
+    lines.end("round")
     return table, order
 
 

@@ -64,7 +64,7 @@ def read_sheet(lines):
     frame.field(4, len(feeders), len(feeders))
     if {feeder.bank for feeder in feeders} != set(range(count)):
         raise files.bare_bank(frame.line)
-    lines.end()
+    lines.end("file")
     return Sheet(settle, panels, feeders)
 
 

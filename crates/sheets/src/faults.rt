@@ -45,6 +45,10 @@ impl fmt::Display for SheetFault {
         let line = told.line;
         let column = told.column;
         match *self {
+            SheetFault::File(FileFault::AfterEnd { .. }) => write!(
+                f,
+                "Line {line}: something stands after the end of the file."
+            ),
             SheetFault::File(fault) => write!(f, "{fault}"),
             SheetFault::Repeated { .. } => write!(
                 f,
