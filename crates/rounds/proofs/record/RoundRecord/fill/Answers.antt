@@ -1,4 +1,4 @@
-use Rattle.std.proofs.Common.{true, false, Decides, sym, refl, subst, rules}
+use Rattle.std.proofs.Common.{true, false, Decides, sym, refl, subst, arith, rules}
 use Rattle.std.proofs.lemmas.Result.{err_from_is_err_and}
 use Rattle.std.proofs.lemmas.Bool.{false≢true}
 use Rattle.rig.specs.Checks.{ListFault, told}
@@ -19,7 +19,7 @@ returns-in_err-check_list c =
     let no : Decides false (MakesRecord c.args.table c.args.list.now) =
     (λ e. absurd (false≢true e), λ m. absurd (false≢true (w.ensures.exact.1 (subst (λ (t : BankTable). LawfulForEver (panelled t) c.args.list.now) (sym same) m.kept)))) in
     rw (p.1, p.2) (record {
-      reply = (no_round c.if-list-gt-MOST_DWELLS.false bad, refl);
+      reply = (no_round (omega arith) bad, refl);
       exact = no;
       regular = decides_keeps c.args.table c.args.list.now false no;
     })
