@@ -8,7 +8,8 @@ use Rattle.frames.specs.Frames.{digits_after, Shaped}
 use Rattle.frames.specs.BadLines.{BadLine}
 use Rattle.frames.proofs.Numerals.{numeral_digits, numeral_same}
 use Rattle.frames.proofs.Splits.{same_split}
-use Rattle.frames.proofs.OneFault.{digits_append, value_small_numeral, GoodLine, good_line_not_bad, one_bad_line}
+use Rattle.frames.proofs.Apart.{digits_append, value_small_numeral, GoodLine}
+use Rattle.frames.proofs.OneFault.{good_line_not_bad, one_bad_line}
 use Rattle.banks.specs.declared.table.Bank.{Bank}
 use Rattle.banks.specs.declared.table.BankTable.{BankTable}
 use Rattle.banks.specs.Limits.{no_bank, bank_at, BankWithin}

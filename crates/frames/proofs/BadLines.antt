@@ -1,57 +1,31 @@
 -- What the reading of a line says of the line, and how its digits fall into fields.
-use Rattle.std.proofs.Common.{◌≡◌, ℕ, ◌+◌, ◌<◌, ◌≤◌, List, ◌∷◌, ◌++◌, length, take, drop, sym, refl, ap, ◌∙◌, subst, ap₂, append_assoc, append-nil, arith, length-append}
+use Rattle.std.proofs.Common.{◌≡◌, ℕ, eqb, ◌+◌, ◌<◌, ◌≤◌, List, ◌∷◌, ◌++◌, length, take, drop, sym, refl, ap, ◌∙◌, subst, ap₂, append_assoc, append-nil, arith}
+use Rattle.std.proofs.lemmas.Bool.{eq-eqb, ne_eqb}
 use Rattle.std.proofs.lemmas.List.{take-append-drop, drop-drop, drop_all, length-take, length-drop}
-use Rattle.refusals.specs.Numbers.{no_digit, no_frame, out_of_place, bad_field, bad_end}
+use Rattle.refusals.specs.Numbers.{out_of_place, bad_field}
 use Rattle.frames.specs.declared.frame.Frame.{Frame}
-use Rattle.frames.specs.declared.frame.FrameFault.{FrameFault}
-use Rattle.frames.specs.declared.frame.FrameFault.TheVariants.{Digit, Shape}
 use Rattle.frames.specs.declared.faults.FileFault.{FileFault}
-use Rattle.frames.specs.declared.faults.FileFault.TheVariants.{Frame as InFrame, TooLong, Unclosed, AfterEnd, Misplaced, Field, Unlawful}
 use Rattle.frames.specs.Digits.{AllDigits, numeral, value, Writes}
-use Rattle.frames.specs.Lines.{ClosedLine}
-use Rattle.frames.specs.Frames.{kind_of, body_of, IsFrame, FrameRead, LineFails, NextFails}
-use Rattle.frames.specs.Faults.{frame_told, file_told}
-use Rattle.frames.specs.BadLines.{field, Framed, BadLine}
-use Rattle.frames.specs.BadLines.BadLine.{not_closed, not_digit, not_frame, other_kind, bad_value}
+use Rattle.frames.specs.Frames.{kind_of, body_of, FrameRead, NextFails}
+use Rattle.frames.specs.Faults.{file_told}
+use Rattle.frames.specs.BadLines.{field, BadLine}
 use Rattle.frames.proofs.Shapes.{due, frame_length}
-use Rattle.frames.proofs.Numerals.{numeral_value, writes_value, digits_front, digits_drop, column_exact}
-
--- A closed line is shorter than the bytes that it begins.
-pub line_short : (bytes line after : List ℕ) → ClosedLine bytes line after → length line < length bytes
-line_short bytes line after h = let l = ap length h.text ∙ length-append line (10 ∷ after) in omega (arith, l)
+use Rattle.frames.proofs.Numerals.{numeral_value, writes_value, digits_front, digits_drop}
+use Rattle.frames.proofs.BadLinesAmong.{one_from_among, next_fails_among, other_frame_among, bad_frame_among}
 
 -- A line that cannot be read is bad, and the fault tells how.
-line_fails : (due : ℕ) (bad-column : List ℕ → ℕ) (bytes : List ℕ) (line : ℕ) (e : FrameFault) → length bytes ≤ 65536 → LineFails bytes line e → BadLine due bad-column bytes line (frame_told e)
-line_fails due bad-column bytes line (Digit d) s h =
-    let f = h.fails in
-    let l = line_short bytes h.line h.after h.closed in
-    let w = f.first.within in
-    let p : f.place < 4294967295 = omega arith in
-    not_digit h.line h.after f.place h.closed f.first
-    (ap (λ n. no_digit n d.column) f.at_line ∙ ap (no_digit line) (f.at_column ∙ column_exact f.place p))
-line_fails due bad-column bytes line (Shape l) s h = not_frame h.line h.after h.closed h.fails.1 (ap no_frame h.fails.0)
-
 pub next_fails : (due : ℕ) (bad-column : List ℕ → ℕ) (bytes : List ℕ) (line : ℕ) (e : FileFault) → length bytes ≤ 65536 → NextFails bytes line e → BadLine due bad-column bytes line (file_told e)
-next_fails due bad-column bytes line (InFrame e) s h = line_fails due bad-column bytes line e s h
-next_fails due bad-column bytes line TooLong s h = absurd h
-next_fails due bad-column bytes line (Unclosed l) s h = not_closed h.1 (ap bad_end h.0)
-next_fails due bad-column bytes line (AfterEnd l) s h = absurd h
-next_fails due bad-column bytes line (Misplaced l) s h = absurd h
-next_fails due bad-column bytes line (Field l c) s h = absurd h
-next_fails due bad-column bytes line (Unlawful l lap p) s h = absurd h
-
--- A frame that was read, as the text of its line.
-pub framed : (line : List ℕ) (f : Frame) → IsFrame line f → Framed line (kind_of f) (body_of f)
-framed line f h = record { digits = h.digits; parts = h.text; shaped = h.shaped }
+next_fails due bad-column bytes line e s h = one_from_among due bad-column bytes line (file_told e) (next_fails_among (eqb due) (λ _. bad-column) bytes line e s h)
 
 -- A frame of another kind is out of place.
 pub other_frame : (due : ℕ) (bad-column : List ℕ → ℕ) (bytes : List ℕ) (line : ℕ) (f : Frame) (after : List ℕ) → FrameRead bytes f after → (kind_of f ≡ due → ⊥) → BadLine due bad-column bytes line (out_of_place line)
-other_frame due bad-column bytes line f after h other = other_kind h.line after (kind_of f) (body_of f) h.closed (framed h.line f h.frame) other refl
+other_frame due bad-column bytes line f after h other =
+    one_from_among due bad-column bytes line (out_of_place line) (other_frame_among (eqb due) (λ _. bad-column) bytes line f after h (ne_eqb due (kind_of f) (λ q. other (sym q))))
 
 -- A frame of the kind that is due, with a field outside its limits.
 pub bad_frame : (bad-column : List ℕ → ℕ) (bytes : List ℕ) (line : ℕ) (f : Frame) (after : List ℕ) (column : ℕ) → FrameRead bytes f after → column ≡ bad-column (body_of f) → 0 < column → BadLine (kind_of f) bad-column bytes line (bad_field line column)
 bad_frame bad-column bytes line f after column h e some =
-    bad_value h.line after (body_of f) h.closed (framed h.line f h.frame) (omega (arith, e)) (ap (bad_field line) e)
+    one_from_among (kind_of f) bad-column bytes line (bad_field line column) (bad_frame_among (eqb (kind_of f)) (λ _. bad-column) bytes line f after column h (eq-eqb (kind_of f) (kind_of f) refl) e some)
 
 -- The bytes whose first line is read as a frame.
 pub frame_text : (bytes : List ℕ) (f : Frame) (after : List ℕ) → FrameRead bytes f after → bytes ≡ numeral 2 (kind_of f) ++ (body_of f ++ (10 ∷ after))

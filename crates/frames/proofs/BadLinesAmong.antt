@@ -1,5 +1,5 @@
 -- What the reading of a line says of it, where several kinds of frame may stand; and the same definition for one kind.
-use Rattle.std.proofs.Common.{◌≡◌, ℕ, ◌<◌, ◌≤◌, Bool, true, false, eqb, List, length, sym, refl, ap, ◌∙◌, subst, arith}
+use Rattle.std.proofs.Common.{◌≡◌, ℕ, ◌<◌, ◌≤◌, Bool, true, false, eqb, List, ◌∷◌, length, length-append, sym, refl, ap, ◌∙◌, subst, arith}
 use Rattle.std.proofs.lemmas.Bool.{eqb-true, eqb-false, eq-eqb, ne_eqb}
 use Rattle.refusals.specs.declared.Refusal.{Refusal}
 use Rattle.refusals.specs.Numbers.{no_digit, no_frame, out_of_place, bad_field, bad_end}
@@ -8,14 +8,22 @@ use Rattle.frames.specs.declared.frame.FrameFault.{FrameFault}
 use Rattle.frames.specs.declared.frame.FrameFault.TheVariants.{Digit, Shape}
 use Rattle.frames.specs.declared.faults.FileFault.{FileFault}
 use Rattle.frames.specs.declared.faults.FileFault.TheVariants.{Frame as InFrame, TooLong, Unclosed, AfterEnd, Misplaced, Field, Unlawful}
-use Rattle.frames.specs.Frames.{kind_of, body_of, FrameRead, LineFails, NextFails}
+use Rattle.frames.specs.Lines.{ClosedLine}
+use Rattle.frames.specs.Frames.{kind_of, body_of, IsFrame, FrameRead, LineFails, NextFails}
 use Rattle.frames.specs.Faults.{frame_told, file_told}
 use Rattle.frames.specs.BadLines.{Framed, BadLine}
 use Rattle.frames.specs.BadLines.BadLine.{not_closed as one_not_closed, not_digit as one_not_digit, not_frame as one_not_frame, other_kind as one_other_kind, bad_value as one_bad_value}
 use Rattle.frames.specs.BadLinesAmong.{BadLineAmong}
 use Rattle.frames.specs.BadLinesAmong.BadLineAmong.{not_closed, not_digit, not_frame, other_kind, bad_value}
 use Rattle.frames.proofs.Numerals.{column_exact}
-use Rattle.frames.proofs.BadLines.{line_short, framed}
+
+-- A closed line is shorter than the bytes that it begins.
+pub line_short : (bytes line after : List ℕ) → ClosedLine bytes line after → length line < length bytes
+line_short bytes line after h = let l = ap length h.text ∙ length-append line (10 ∷ after) in omega (arith, l)
+
+-- A frame that was read, as the text of its line.
+pub framed : (line : List ℕ) (f : Frame) → IsFrame line f → Framed line (kind_of f) (body_of f)
+framed line f h = record { digits = h.digits; parts = h.text; shaped = h.shaped }
 
 -- Where one kind is due, both definitions say the same.
 module _ (due : ℕ) (bad-column : List ℕ → ℕ) (bytes : List ℕ) (line : ℕ) (r : Refusal) where

@@ -2,8 +2,9 @@ pub mod Numerals
 pub mod Splits
 pub mod Shapes
 pub mod Readings
-pub mod BadLines
 pub mod BadLinesAmong
-pub mod OneFault
+pub mod BadLines
+pub mod Apart
 pub mod OneFaultAmong
+pub mod OneFault
 pub mod LinesTo

@@ -10,7 +10,7 @@ use Rattle.frames.specs.BadLinesAmong.{BadLineAmong}
 use Rattle.frames.specs.BadLinesAmong.BadLineAmong.{not_closed, not_digit, not_frame, other_kind, bad_value}
 use Rattle.frames.proofs.Splits.{one_line, closed_closes}
 use Rattle.frames.proofs.Readings.{one_no_digit}
-use Rattle.frames.proofs.OneFault.{no_digit_apart, no_frame_apart, one_framed, GoodLine, good_digits, good_closed, good_framed}
+use Rattle.frames.proofs.Apart.{no_digit_apart, no_frame_apart, one_framed, GoodLine, good_digits, good_closed, good_framed}
 
 module _ (due : ℕ) (bad-column : List ℕ → ℕ) (bytes body after : List ℕ) (g : GoodLine due bad-column bytes body after) where
   all-digits : AllDigits (numeral 2 due ++ body)

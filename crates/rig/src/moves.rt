@@ -3,7 +3,7 @@ ghost use Rattle.std.specs.Prelude.{◌≡◌, ℕ, false, not, ◌&&◌, ◌||�
 ghost use Rattle.rig.specs.Sets.{in_set, most_moves};
 
 // Moves are numbered from 0, below this.
-pub const MOST_MOVES: usize = 32;
+pub const MOST_MOVES: usize = crate::MOST_MOVES as usize;
 
 #[derive(Clone, Copy)]
 pub struct Moves {

@@ -9,7 +9,8 @@ use Rattle.frames.specs.Frames.{digits_after}
 use Rattle.frames.specs.BadLines.{BadLine}
 use Rattle.frames.proofs.Numerals.{all_none, numeral_digits, numeral_same}
 use Rattle.frames.proofs.Splits.{same_split}
-use Rattle.frames.proofs.OneFault.{digits_append, value_small_numeral, GoodLine, good_line_not_bad, one_bad_line}
+use Rattle.frames.proofs.Apart.{digits_append, value_small_numeral, GoodLine}
+use Rattle.frames.proofs.OneFault.{good_line_not_bad, one_bad_line}
 use Rattle.rig.specs.Orders.{reached, again, LawfulForEver}
 use Rattle.rig.proofs.Runs.{lawful_move}
 use Rattle.rig.proofs.Laps.{unlawful_refutes, one_unlawful}

@@ -8,7 +8,8 @@ use Rattle.frames.specs.BadLines.{field, BadLine}
 use Rattle.frames.specs.BadLinesAmong.{BadLineAmong}
 use Rattle.frames.proofs.Numerals.{numeral_digits}
 use Rattle.frames.proofs.Splits.{same_split}
-use Rattle.frames.proofs.OneFault.{digits_append, value_small_numeral, GoodLine, good_line_not_bad}
+use Rattle.frames.proofs.Apart.{digits_append, value_small_numeral, GoodLine}
+use Rattle.frames.proofs.OneFault.{good_line_not_bad}
 use Rattle.frames.proofs.OneFaultAmong.{good_line_not_bad_among}
 use Rattle.sheets.specs.declared.feeder.Feeder.{Feeder}
 use Rattle.sheets.specs.Limits.{most_panel, most_feeders}
