@@ -4,6 +4,7 @@ pub mod Shapes
 pub mod Readings
 pub mod BadLinesAmong
 pub mod BadLines
+pub mod FieldNumbers
 pub mod Apart
 pub mod OneFaultAmong
 pub mod OneFault

@@ -1,10 +1,15 @@
 -- The kinds of frames, their digits, and that a line is one frame at most.
-use Rattle.std.proofs.Common.{◌≡◌, ℕ, ◌+◌, ◌*◌, ◌<◌, ◌≤◌, cond, eqb, List, ◌++◌, length, take, drop, sym, refl, ap, ◌∙◌, subst, arith, Bor}
+use Rattle.std.proofs.Common.{◌≡◌, ℕ, ◌+◌, ◌*◌, ◌<◌, ◌≤◌, cond, eqb, List, Result, Ok, Err, Some, None, ◌++◌, length, take, drop, sym, refl, ap, ◌∙◌, subst, arith, Bor}
 use Rattle.std.proofs.lemmas.Bool.Decides.{nat_tests}
 use Rattle.frames.specs.declared.frame.Frame.{Frame}
 use Rattle.frames.specs.declared.frame.Frame.TheVariants.{SheetHead, SheetBank, Feeder, FeederCount, Verdict, RoundHead, RoundBank, RoundPart, Refused}
 use Rattle.frames.specs.declared.frame.FrameFault.{FrameFault}
 use Rattle.frames.specs.declared.frame.FrameFault.TheVariants.{Digit, Shape}
+use Rattle.frames.specs.declared.kind.Kind.{Kind}
+use Rattle.frames.specs.declared.kind.Kind.TheVariants as kinds
+use Rattle.frames.specs.declared.kind.UnknownKind.{UnknownKind}
+use Rattle.frames.specs.Kinds.{number_of, Decodes}
+use Rattle.std.specs.Result.{result_ok}
 use Rattle.frames.specs.Digits.{AllDigits, numeral, value, Writes}
 use Rattle.frames.specs.Frames.{kind_of, body_of, digits_after, Shaped, IsFrame, NoFrame, FrameFails}
 use Rattle.frames.proofs.Numerals.{numeral_same, two_digits, field_front}
@@ -100,6 +105,26 @@ one_kind k₁ k₂ b₁ b₂ s₁ s₂ e =
 
 pub frame_kind : (bytes : List ℕ) (f : Frame) (k : ℕ) (b : List ℕ) → IsFrame bytes f → k < 256 → bytes ≡ numeral 2 k ++ b → (k ≡ kind_of f) × (b ≡ body_of f)
 frame_kind bytes f k b h s e = one_kind k (kind_of f) b (body_of f) s (kind_small f) (sym e ∙ h.text)
+
+pub number_small : (k : Kind) → number_of k < 256
+number_small kinds.SheetHead = omega arith
+number_small kinds.SheetBank = omega arith
+number_small kinds.Feeder = omega arith
+number_small kinds.FeederCount = omega arith
+number_small kinds.Verdict = omega arith
+number_small kinds.RoundHead = omega arith
+number_small kinds.RoundBank = omega arith
+number_small kinds.RoundPart = omega arith
+number_small kinds.Refused = omega arith
+
+-- What a number stands for.
+pub decoded : (n : ℕ) (r : Result Kind UnknownKind) (k : Kind) → Decodes n r → Some k ≡ result_ok r → number_of k ≡ n
+decoded n (Ok j) k d e = cc
+decoded n (Err u) k d e = cc
+
+pub undecoded : (n : ℕ) (r : Result Kind UnknownKind) → Decodes n r → None ≡ result_ok r → (body : List ℕ) → digits_after n body ≡ 0
+undecoded n (Ok j) d e = cc
+undecoded n (Err u) d e = d
 
 -- A line of digits, cut into its kind and the digits after it.
 pub record Cut (bytes : List ℕ) (k : ℕ) (body : List ℕ) : Type 0 where

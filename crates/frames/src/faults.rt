@@ -6,7 +6,8 @@ ghost use Rattle.frames.specs.Faults.{file_told};
 
 use crate::frame::{Frame, FrameFault, cut_frame};
 use crate::lines::split_line;
-use refusals::Refusal;
+use refusals::{Refusal, RefusalNumber};
+use std::error::Error;
 use std::fmt;
 
 // Why a file is refused. Lines and columns count from 1.
@@ -48,31 +49,41 @@ impl From<FrameFault> for FileFault {
     }
 }
 
-impl FileFault {
-    // The refusal's number and values.
-    pub fn told(&self) -> Refusal
-        ensures { result ≡ file_told self.now }
-    {
-        match *self {
-            FileFault::Frame(fault) => fault.told(),
-            FileFault::TooLong => Refusal::in_file(7, 1, 1),
-            FileFault::Unclosed { line } => Refusal::in_file(7, line, 1),
-            FileFault::AfterEnd { line } => Refusal::in_file(7, line, 1),
-            FileFault::Misplaced { line } => Refusal::in_file(3, line, 1),
-            FileFault::Field { line, column } => Refusal::in_file(4, line, column),
+impl From<FileFault> for Refusal {
+    ghost from_gives = { λ e r. r ≡ file_told e };
+
+    fn from(fault: FileFault) -> Refusal {
+        match fault {
+            FileFault::Frame(fault) => Refusal::from(fault),
+            FileFault::TooLong => Refusal::in_file(RefusalNumber::BadEnd as u8, 1, 1),
+            FileFault::Unclosed { line } | FileFault::AfterEnd { line } => {
+                Refusal::in_file(RefusalNumber::BadEnd as u8, line, 1)
+            }
+            FileFault::Misplaced { line } => {
+                Refusal::in_file(RefusalNumber::OutOfPlace as u8, line, 1)
+            }
+            FileFault::Field { line, column } => {
+                Refusal::in_file(RefusalNumber::BadField as u8, line, column)
+            }
             FileFault::Unlawful {
                 line,
                 lap,
                 position,
             } => Refusal {
-                number: 11,
                 line,
                 column: 1,
-                lap,
-                position,
-                length: 0,
+                ..Refusal::in_list(RefusalNumber::NotLawful as u8, lap, position)
             },
         }
+    }
+}
+
+impl FileFault {
+    // The refusal's number and values.
+    pub fn told(&self) -> Refusal
+        ensures { result ≡ file_told self.now }
+    {
+        Refusal::from(*self)
     }
 }
 
@@ -80,10 +91,8 @@ impl FileFault {
 pub fn next_frame(rest: &[u8], line: u32) -> Result<(Frame<'_>, &[u8]), FileFault>
     ensures { MatchResult result (λ p. FrameRead rest.now p.0 p.1.now) (λ e. NextFails rest.now line e) }
 {
-    match split_line(rest) {
-        Some((bytes, after)) => Ok((cut_frame(bytes, line)?, after)),
-        None => Err(FileFault::Unclosed { line }),
-    }
+    let (bytes, after) = split_line(rest).ok_or(FileFault::Unclosed { line })?;
+    Ok((cut_frame(bytes, line)?, after))
 }
 
 // A sentence that says what is wrong where.
@@ -131,3 +140,5 @@ impl fmt::Display for FileFault {
         }
     }
 }
+
+impl Error for FileFault {}

@@ -1,32 +1,17 @@
 // Frames: a line is a kind of two digits, and as many digits after it as that kind has.
-ghost use Rattle.std.specs.Prelude.{◌≡◌, take, MatchOption, MatchResult};
+ghost use Rattle.std.specs.Prelude.{◌≡◌, ◌++◌, MatchOption, MatchResult};
 ghost use Rattle.frames.specs.declared.frame.FrameFault.TheVariants.{Digit};
-ghost use Rattle.frames.specs.Digits.{AllDigits};
-ghost use Rattle.frames.specs.Frames.{kind_of, body_of, digits_after, IsFrame, FrameFails};
+ghost use Rattle.frames.specs.Digits.{AllDigits, numeral};
+ghost use Rattle.frames.specs.Frames.{kind_of, body_of, IsFrame, FrameFails, NoFrame};
+ghost use Rattle.frames.specs.Kinds.{number_of};
 ghost use Rattle.frames.specs.Faults.{frame_told};
 
 use crate::digits::{DigitFault, check_digits, number};
-use refusals::Refusal;
+use crate::kind::Kind;
+use refusals::{Refusal, RefusalNumber};
 
 // How many digits a kind has.
 const KIND: usize = 2;
-
-// How many digits come after each kind.
-const SHEET_HEAD: usize = 6;
-
-const SHEET_BANK: usize = 4;
-
-const FEEDER: usize = 14;
-
-const FEEDER_COUNT: usize = 4;
-
-const VERDICT: usize = 10;
-
-const ROUND_HEAD: usize = 10;
-
-const ROUND_BANK: usize = 12;
-
-const REFUSED: usize = 18;
 
 // A frame, with the digits after its kind.
 #[derive(Clone, Copy, Debug)]
@@ -66,72 +51,52 @@ impl From<DigitFault> for FrameFault {
     }
 }
 
+impl From<FrameFault> for Refusal {
+    ghost from_gives = { λ e r. r ≡ frame_told e };
+
+    fn from(fault: FrameFault) -> Refusal {
+        match fault {
+            FrameFault::Digit(fault) => Refusal::from(fault),
+            FrameFault::Shape { line } => Refusal::in_file(RefusalNumber::NoFrame as u8, line, 1),
+        }
+    }
+}
+
 impl FrameFault {
     // The refusal's number and values.
     pub fn told(&self) -> Refusal
         ensures { result ≡ frame_told self.now }
     {
-        match *self {
-            FrameFault::Digit(fault) => fault.told(),
-            FrameFault::Shape { line } => Refusal::in_file(2, line, 1),
-        }
+        Refusal::from(*self)
     }
 }
 
-// The digits that are a kind or a count: the first two, or fewer where there are fewer.
-fn first_two(digits: &[u8]) -> &[u8]
-    ensures { result.now ≡ take 2 digits.now }
-{
-    if digits.len() < 2 {
-        digits
-    } else {
-        &digits[0..2]
-    }
-}
-
-// The number of digits of a part of a round, by its count.
-fn part_length(body: &[u8]) -> usize
-    requires { AllDigits body.now }
-    ensures { result ≡ digits_after 19 body.now }
-{
-    2 + 2 * number(first_two(body)) as usize
-}
-
-// How many digits come after the kind; 0 for an unknown kind.
-fn body_length(kind: u32, body: &[u8]) -> usize
-    requires { AllDigits body.now }
-    ensures { result ≡ digits_after kind body.now }
+// The frame of a kind, with these digits after it.
+fn framed(kind: Kind, body: &[u8]) -> Frame<'_>
+    ensures kind { kind_of result ≡ number_of kind }
+    ensures body { body_of result ≡ body.now }
 {
     match kind {
-        1 => SHEET_HEAD,
-        2 => SHEET_BANK,
-        3 => FEEDER,
-        4 => FEEDER_COUNT,
-        16 => VERDICT,
-        17 => ROUND_HEAD,
-        18 => ROUND_BANK,
-        19 => part_length(body),
-        31 => REFUSED,
-        _ => 0,
+        Kind::SheetHead => Frame::SheetHead(body),
+        Kind::SheetBank => Frame::SheetBank(body),
+        Kind::Feeder => Frame::Feeder(body),
+        Kind::FeederCount => Frame::FeederCount(body),
+        Kind::Verdict => Frame::Verdict(body),
+        Kind::RoundHead => Frame::RoundHead(body),
+        Kind::RoundBank => Frame::RoundBank(body),
+        Kind::RoundPart => Frame::RoundPart(body),
+        Kind::Refused => Frame::Refused(body),
     }
 }
 
-// The frame of a known kind.
-fn framed(kind: u32, body: &[u8]) -> Option<Frame<'_>>
-    ensures { MatchOption result (digits_after kind body.now ≡ 0) (λ f. (kind_of f ≡ kind) × (body_of f ≡ body.now)) }
+// The kind that the first two digits of a line are, and the digits after it.
+fn split_kind(bytes: &[u8]) -> Option<(Kind, &[u8])>
+    requires { AllDigits bytes.now }
+    ensures { MatchOption result (NoFrame bytes.now) (λ p. AllDigits p.1.now × (bytes.now ≡ numeral 2 (number_of p.0) ++ p.1.now)) }
 {
-    match kind {
-        1 => Some(Frame::SheetHead(body)),
-        2 => Some(Frame::SheetBank(body)),
-        3 => Some(Frame::Feeder(body)),
-        4 => Some(Frame::FeederCount(body)),
-        16 => Some(Frame::Verdict(body)),
-        17 => Some(Frame::RoundHead(body)),
-        18 => Some(Frame::RoundBank(body)),
-        19 => Some(Frame::RoundPart(body)),
-        31 => Some(Frame::Refused(body)),
-        _ => None,
-    }
+    let (two, body) = bytes.split_at_checked(KIND)?;
+    let kind = Kind::try_from(number(two)).ok()?;
+    Some((kind, body))
 }
 
 // The frame that the bytes of a line are. Digits are tested first, then the kind and the number of digits.
@@ -139,16 +104,10 @@ pub fn cut_frame(bytes: &[u8], line: u32) -> Result<Frame<'_>, FrameFault>
     ensures { MatchResult result (λ f. IsFrame bytes.now f) (λ e. FrameFails bytes.now line e) }
 {
     check_digits(bytes, line)?;
-    if bytes.len() < KIND {
-        return Err(FrameFault::Shape { line });
+    let shape = FrameFault::Shape { line };
+    let (kind, body) = split_kind(bytes).ok_or(shape)?;
+    if kind.digits_after(body) != body.len() {
+        return Err(shape);
     }
-    let kind = number(first_two(bytes));
-    let body = &bytes[KIND..];
-    if body_length(kind, body) != body.len() {
-        return Err(FrameFault::Shape { line });
-    }
-    match framed(kind, body) {
-        Some(frame) => Ok(frame),
-        None => Err(FrameFault::Shape { line }),
-    }
+    Ok(framed(kind, body))
 }

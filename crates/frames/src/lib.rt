@@ -5,12 +5,16 @@ mod digits;
 mod faults;
 mod fields;
 mod frame;
+mod kind;
 mod lines;
 #[cfg(test)]
 mod tests;
 
-pub use digits::{DigitFault, MOST_DIGITS, NO_DIGIT, check_digits, digit_value, number};
+pub use digits::{
+    DigitFault, MOST_DIGITS, NO_DIGIT, check_digits, digit_value, number, read_number,
+};
 pub use faults::{FileFault, next_frame};
-pub use fields::number_at;
+pub use fields::{Field, number_at, read_fields};
 pub use frame::{Frame, FrameFault, cut_frame};
+pub use kind::{Kind, UnknownKind};
 pub use lines::{LINE_END, MOST_BYTES, split_line};

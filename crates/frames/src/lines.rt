@@ -12,10 +12,6 @@ pub const LINE_END: u8 = 10;
 pub fn split_line(rest: &[u8]) -> Option<(&[u8], &[u8])>
     ensures { MatchOption result (NoneCloses rest.now) (λ p. ClosedLine rest.now p.0.now p.1.now) }
 {
-    for (k, b) in rest.iter().enumerate() {
-        if *b == LINE_END {
-            return Some((&rest[0..k], &rest[k + 1..]));
-        }
-    }
-    None
+    let k = rest.iter().position(|b| *b == LINE_END)?;
+    Some((&rest[0..k], &rest[k + 1..]))
 }

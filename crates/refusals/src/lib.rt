@@ -6,8 +6,25 @@ ghost use Rattle.refusals.specs.Numbers.{at_place, at_move, of_length};
 
 use std::fmt;
 
+// What refusals are told of, by their numbers.
+#[derive(Clone, Copy, PartialEq, Eq, Debug)]
+pub enum RefusalNumber {
+    NoDigit = 1,
+    NoFrame = 2,
+    OutOfPlace = 3,
+    BadField = 4,
+    RepeatedFeeder = 5,
+    BareBank = 6,
+    BadEnd = 7,
+    NoRound = 8,
+    TooShort = 9,
+    NoMove = 10,
+    NotLawful = 11,
+}
+
 // A value that a refusal does not have is 0: only files have lines and columns, only lists of moves have laps and positions,
-// and only buffers have a length that is needed.
+// and only buffers have a length that is needed. The number stays a number: a frame prints it, programs in other languages are
+// given it, and a caller may tell one of its own.
 #[derive(Clone, Copy, PartialEq, Eq, Debug)]
 pub struct Refusal {
     pub number: u8,

@@ -1,25 +1,16 @@
-use Rattle.std.proofs.Common.{sym, refl, ◌∙◌, subst}
-use Rattle.std.proofs.lemmas.List.{take_rest}
-use Rattle.frames.specs.Digits.{AllDigits}
-use Rattle.frames.proofs.Numerals.{digits_drop}
-use Rattle.frames.proofs.Shapes.{cut_from, no_frame, is_frame}
+use Rattle.std.proofs.Common.{sym, refl, ◌∙◌}
+use Rattle.frames.proofs.Shapes.{Cut, is_frame, no_frame, number_small}
+use Rattle.frames.specs.Kinds.{number_of}
 use Rattle.frames.proofs.frame.cut_frame.Goals as goal
 
-pub body_length-requires : goal.body_length-requires
-body_length-requires c =
-    subst AllDigits (sym (take_rest c.args.bytes.now 2)) (digits_drop c.args.bytes.now 2 c.in_ok-check_digits.ensures)
+pub returns-then-digits_after-body : goal.returns-then-digits_after-body
+returns-then-digits_after-body c =
+    let k = rw c.in_ok-kind.ensures.ok_part at c.split_kind.ensures in
+    let cut : Cut c.args.bytes.now (number_of c.in_ok-kind.kind) c.in_ok-kind.body.now = record { digits = c.in_ok-check_digits.ensures; small = number_small c.in_ok-kind.kind; text = k.1 } in
+    (refl, no_frame c.args.bytes.now (number_of c.in_ok-kind.kind) c.in_ok-kind.body.now cut (λ s. c.if-digits_after-body.true (c.digits_after.ensures ∙ sym s.fits)))
 
-pub returns-then-body_length-body : goal.returns-then-body_length-body
-returns-then-body_length-body c =
-    let xs = c.args.bytes.now in
-    let t = c.in_ok-check_digits.ensures in
-    let cut = cut_from xs c.first_two.result.now c.number-kind.result _ t c.if-bytes-lt-KIND.false c.first_two.ensures c.number-kind.ensures.read (take_rest xs 2) in
-    (refl, no_frame xs c.number-kind.result _ cut (λ s. c.if-body_length-body.true (c.body_length.ensures ∙ sym s.fits)))
-
-pub returns-in-Some : goal.returns-in-Some
-returns-in-Some c =
-    let xs = c.args.bytes.now in
-    let t = c.in_ok-check_digits.ensures in
-    let cut = cut_from xs c.first_two.result.now c.number-kind.result _ t c.if-bytes-lt-KIND.false c.first_two.ensures c.number-kind.ensures.read (take_rest xs 2) in
-    let e = c.in-Some.ensures in
-    is_frame xs c.number-kind.result _ c.in-Some.frame cut e.0 e.1 (sym c.if-body_length-body.false ∙ c.body_length.ensures)
+pub returns : goal.returns
+returns c =
+    let k = rw c.in_ok-kind.ensures.ok_part at c.split_kind.ensures in
+    let cut : Cut c.args.bytes.now (number_of c.in_ok-kind.kind) c.in_ok-kind.body.now = record { digits = c.in_ok-check_digits.ensures; small = number_small c.in_ok-kind.kind; text = k.1 } in
+    is_frame c.args.bytes.now (number_of c.in_ok-kind.kind) c.in_ok-kind.body.now c.framed.result cut c.framed.ensures.kind c.framed.ensures.body (sym c.if-digits_after-body.false ∙ c.digits_after.ensures)

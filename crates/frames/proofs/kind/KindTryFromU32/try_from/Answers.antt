@@ -1,8 +1,8 @@
 use Rattle.std.proofs.Common.{arith}
 use Rattle.std.proofs.lemmas.Bool.Decides.{nat_tests}
 use Rattle.frames.specs.Frames.{digits_after}
-use Rattle.frames.proofs.frame.framed.Goals as goal
+use Rattle.frames.proofs.kind.KindTryFromU32.try_from.Goals as goal
 
 pub returns-in_default : goal.returns-in_default
 unfolding digits_after
-returns-in_default c = let h = c.in_default in grind (arith, nat_tests)
+returns-in_default c = λ body. let h = c.in_default in grind (arith, nat_tests)
