@@ -9,6 +9,7 @@ mod kind;
 mod lines;
 #[cfg(test)]
 mod tests;
+mod unread;
 
 pub use digits::{
     DigitFault, MOST_DIGITS, NO_DIGIT, check_digits, digit_value, number, read_number,
@@ -18,3 +19,4 @@ pub use fields::{Field, number_at, read_fields};
 pub use frame::{Frame, FrameFault, cut_frame};
 pub use kind::{Kind, UnknownKind};
 pub use lines::{LINE_END, MOST_BYTES, split_line};
+pub use unread::Unread;
