@@ -1,8 +1,8 @@
 -- Numerals and the numbers that they write.
-use Rattle.std.proofs.Common.{◌≡◌, ℕ, zero, suc, ◌+◌, ◌*◌, ◌/◌, ◌%◌, ◌^◌, ◌<◌, ◌≤◌, List, [], ◌∷◌, ◌++◌, length, get_or, take, drop, sym, refl, ap, ◌∙◌, subst, suc-le-suc, le_of_suc-le-suc, not-suc-le-zero, mod-lt, mod-eq_of_lt, zero-lt-suc, mul_assoc, add-mul, pow-suc, add-one, arith, length-append, below_more}
+use Rattle.std.proofs.Common.{◌≡◌, ℕ, zero, suc, ◌+◌, ◌*◌, ◌/◌, ◌%◌, ◌^◌, ◌<◌, ◌≤◌, List, [], ◌∷◌, ◌++◌, length, get_or, take, drop, sym, refl, ap, ◌∙◌, subst, suc-le-suc, le_of_suc-le-suc, not-suc-le-zero, mod-lt, mod-eq_of_lt, zero-lt-suc, mul_assoc, add-mul, pow-suc, add-one, arith, length-append}
 use native.Mathlib.Nat.{pow-succ', pow-le-pow_right, mod-one, mul-add-div_right, mul-add-mod_self_right}
 use lib.Arith.{mod-mul, digits_lt, digits_div}
-use Rattle.std.proofs.lemmas.List.{take_more, take_all, take_at, take-append-drop, get_or-take, get_or-drop, length-take, length-drop, length-take-le}
+use Rattle.std.proofs.lemmas.List.{take_all, take_at, take-append-drop, get_or-take, get_or-drop, length-take, length-drop, length-take-le}
 use Rattle.std.proofs.lemmas.Bool.Decides.{nat_tests}
 use Rattle.frames.specs.Digits.{digit_value, digit, IsDigit, AllDigits, numeral, value, Writes, column_of}
 use Rattle.frames.specs.Lines.{NoneCloses}
@@ -53,9 +53,6 @@ length_numeral (suc w) n = ap suc (length_numeral w n)
 pub numeral_digits : (w n : ℕ) → AllDigits (numeral w n)
 numeral_digits zero n = all_none
 numeral_digits (suc w) n = all_cons (digit (n / 16 ^ w % 16)) (numeral w n) (digit_is (n / 16 ^ w % 16) (mod-lt (n / 16 ^ w) (zero-lt-suc 15))) (numeral_digits w n)
-
-pub numeral_none_closes : (w n : ℕ) → NoneCloses (numeral w n)
-numeral_none_closes w n = digits_none_close (numeral w n) (numeral_digits w n)
 
 -- What a numeral writes.
 pub value_numeral : (w n : ℕ) → value (numeral w n) ≡ n % 16 ^ w
@@ -137,12 +134,6 @@ read_room xs i n r l h =
     let p : 16 ^ i ≤ 16 ^ 7 = pow-le-pow_right (zero-lt-suc 15) {i = i} {j = 7} (omega arith) in
     let q : n < 16 ^ i = subst (λ (k : ℕ). n < 16 ^ k) e (subst (λ (v : ℕ). v < 16 ^ length (take i xs)) (sym r.is) s) in
     omega (arith, p, q)
-
-pub read_more : (xs : List ℕ) (i n : ℕ) → ReadTo xs i n → i < length xs → IsDigit (get_or xs i 0) → ReadTo xs (i + 1) (n * 16 + digit_value (get_or xs i 0))
-read_more xs i n r l h = record {
-  is = let e = take_more xs i 0 l in let p = value_push (take i xs) (get_or xs i 0) in let q = r.is in cc;
-  before = below_more (λ k. IsDigit (get_or xs k 0)) i r.before h;
-}
 
 pub read_all : (xs : List ℕ) (i n : ℕ) → ReadTo xs i n → length xs ≤ i → Writes xs n
 read_all xs i n r h =

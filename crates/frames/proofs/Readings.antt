@@ -1,5 +1,5 @@
 -- What is read is determined by the bytes: one frame, or one fault, and not both.
-use Rattle.std.proofs.Common.{◌≡◌, ℕ, ◌<◌, List, ◌++◌, sym, ap, ◌∙◌, subst, ⊎_elim}
+use Rattle.std.proofs.Common.{◌≡◌, ℕ, List, ◌++◌, sym, ap, ◌∙◌, subst, ⊎_elim}
 use Rattle.std.proofs.lemmas.Bool.{cases_order}
 use Rattle.frames.specs.declared.digits.DigitFault.{DigitFault}
 use Rattle.frames.specs.declared.frame.Frame.{Frame}
@@ -9,9 +9,9 @@ use Rattle.frames.specs.declared.faults.FileFault.{FileFault}
 use Rattle.frames.specs.declared.faults.FileFault.TheVariants.{Frame as InFrame, TooLong, Unclosed, AfterEnd, Misplaced, Field, Unlawful}
 use Rattle.frames.specs.Digits.{AllDigits, FirstNoDigit, numeral, column_of}
 use Rattle.frames.specs.Lines.{ClosedLine}
-use Rattle.frames.specs.Frames.{kind_of, body_of, Shaped, IsFrame, NoDigitIn, FrameFails, FrameRead, LineFails, NextFails}
+use Rattle.frames.specs.Frames.{kind_of, body_of, Shaped, NoDigitIn, FrameFails, FrameRead, LineFails, NextFails}
 use Rattle.frames.proofs.Splits.{one_line, closed_closes}
-use Rattle.frames.proofs.Shapes.{frame_kind, good_line_cut}
+use Rattle.frames.proofs.Shapes.{good_line_cut}
 
 -- The first byte that is no digit stands at one place.
 pub one_no_digit : (bytes : List ℕ) (j k : ℕ) → FirstNoDigit bytes j → FirstNoDigit bytes k → j ≡ k
@@ -37,22 +37,6 @@ one_frame_fault bytes line (Digit d) (Digit e) h i = ap Digit (one_digit_fault b
 one_frame_fault bytes line (Digit d) (Shape m) h i = absurd (digits_no_fault bytes h.place i.1.digits h.first)
 one_frame_fault bytes line (Shape l) (Digit e) h i = absurd (digits_no_fault bytes i.place h.1.digits i.first)
 one_frame_fault bytes line (Shape l) (Shape m) h i = ap Shape (h.0 ∙ sym i.0)
-
--- A frame has no fault.
-pub frame_no_fault : (bytes : List ℕ) (f : Frame) (line : ℕ) (e : FrameFault) → IsFrame bytes f → FrameFails bytes line e → ⊥
-frame_no_fault bytes f line e h i = good_line_cut bytes (kind_of f) (body_of f) h.digits h.shaped h.text line e i
-
--- The frame that is read from a closed line is that line's.
-pub read_line : (bytes line after : List ℕ) (f : Frame) (a : List ℕ) → ClosedLine bytes line after → FrameRead bytes f a → IsFrame line f × (a ≡ after)
-read_line bytes line after f a c r =
-    let p = one_line bytes r.line a line after r.closed c in
-    (subst (λ (xs : List ℕ). IsFrame xs f) p.0 r.frame, p.1)
-
-pub read_kind : (bytes line after : List ℕ) (k : ℕ) (b : List ℕ) (f : Frame) (a : List ℕ) → ClosedLine bytes line after → k < 256 → line ≡ numeral 2 k ++ b → FrameRead bytes f a → (kind_of f ≡ k) × (body_of f ≡ b) × (a ≡ after)
-read_kind bytes line after k b f a c s e r =
-    let p = read_line bytes line after f a c r in
-    let q = frame_kind line f k b p.0 s e in
-    (sym q.0, sym q.1, p.1)
 
 -- What fails at a closed line is that line.
 pub fails_line : (bytes line after : List ℕ) (n : ℕ) (e : FrameFault) → ClosedLine bytes line after → LineFails bytes n e → FrameFails line n e

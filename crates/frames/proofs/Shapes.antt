@@ -103,9 +103,6 @@ one_kind k₁ k₂ b₁ b₂ s₁ s₂ e =
     let p = same_split (numeral 2 k₁) (numeral 2 k₂) b₁ b₂ refl e in
     (numeral_same 2 k₁ k₂ s₁ s₂ p.0, p.1)
 
-pub frame_kind : (bytes : List ℕ) (f : Frame) (k : ℕ) (b : List ℕ) → IsFrame bytes f → k < 256 → bytes ≡ numeral 2 k ++ b → (k ≡ kind_of f) × (b ≡ body_of f)
-frame_kind bytes f k b h s e = one_kind k (kind_of f) b (body_of f) s (kind_small f) (sym e ∙ h.text)
-
 pub number_small : (k : Kind) → number_of k < 256
 number_small kinds.SheetHead = omega arith
 number_small kinds.SheetBank = omega arith

@@ -1,7 +1,6 @@
 -- A text is split in one way only: by a length, or at the first byte that closes a line.
-use Rattle.std.proofs.Common.{◌≡◌, ℕ, ◌+◌, ◌<◌, ◌≤◌, List, ◌∷◌, ◌++◌, length, get_or, take, drop, sym, refl, ap, ◌∙◌, ⊎_elim, add-one, arith, length-append}
-use lib.Seq.{split_at}
-use Rattle.std.proofs.lemmas.List.{take_at, drop_at, get_or_at, get_or_append_left, get_or-take, length-take-le}
+use Rattle.std.proofs.Common.{◌≡◌, ℕ, ◌<◌, ◌≤◌, List, ◌∷◌, ◌++◌, length, get_or, take, drop, sym, refl, ap, ◌∙◌, ⊎_elim, arith, length-append}
+use Rattle.std.proofs.lemmas.List.{take_at, drop_at, get_or_at, get_or_append_left}
 use Rattle.std.proofs.lemmas.Bool.{cases_order}
 use Rattle.frames.specs.Lines.{NoneCloses, ClosedLine}
 
@@ -32,20 +31,6 @@ pub closed_closes : (bytes line after : List ℕ) → ClosedLine bytes line afte
 closed_closes bytes line after h none =
     let l = ap length h.text ∙ length-append line (10 ∷ after) in
     none (length line) (omega (arith, l)) (closing bytes line after h)
-
--- What a search for the first closing byte finds.
-pub closed_at : (bytes : List ℕ) (k : ℕ) (line after : List ℕ) → k < length bytes → get_or bytes k 0 ≡ 10 → ((i : ℕ) → i < k → get_or bytes i 0 ≡ 10 → ⊥) → line ≡ take k bytes → after ≡ drop (k + 1) bytes → ClosedLine bytes line after
-closed_at bytes k line after l e none p q = record {
-  text = let s = split_at bytes k 0 l in let a = add-one k in cc;
-  inside = λ i h b.
-      let m = ap length p in
-      let s : i < k = omega (arith, m, length-take-le k bytes (omega arith)) in
-      none i s (sym (get_or-take k bytes i 0 s) ∙ ap (λ xs. get_or xs i 0) (sym p) ∙ b);
-}
-
--- A line of bytes that close nothing, closed.
-pub closed_line : (line after : List ℕ) → NoneCloses line → ClosedLine (line ++ (10 ∷ after)) line after
-closed_line line after h = record { text = refl; inside = h }
 
 -- What is left is no longer than the whole.
 pub rest_short : (bytes front rest : List ℕ) → bytes ≡ front ++ rest → length rest ≤ length bytes
