@@ -59,9 +59,16 @@ impl Short {
     pub fn told(&self) -> Refusal
         ensures { result ≡ short_told self.now }
     {
-        match *self {
-            Short::Replies { needed } => Refusal::of_length(9, needed),
-            Short::Bytes { needed } => Refusal::of_length(9, needed),
+        Refusal::from(*self)
+    }
+}
+
+impl From<Short> for Refusal {
+    ghost from_gives = { λ e r. r ≡ short_told e };
+
+    fn from(e: Short) -> Refusal {
+        match e {
+            Short::Replies { needed } | Short::Bytes { needed } => Refusal::of_length(9, needed),
         }
     }
 }

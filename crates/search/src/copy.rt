@@ -17,7 +17,15 @@ impl Uncopied {
     pub fn told(&self) -> Refusal
         ensures { result ≡ told self.now }
     {
-        match *self {
+        Refusal::from(*self)
+    }
+}
+
+impl From<Uncopied> for Refusal {
+    ghost from_gives = { λ e r. r ≡ told e };
+
+    fn from(e: Uncopied) -> Refusal {
+        match e {
             Uncopied::NoRound => Refusal::of_length(8, 0),
             Uncopied::Short { needed } => Refusal::of_length(9, needed),
         }
