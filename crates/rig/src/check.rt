@@ -5,7 +5,7 @@ ghost use Rattle.rig.specs.Orders.{LawfulForEver};
 ghost use Rattle.rig.specs.Checks.{told, Checked, FirstNoMove, OnlyMoves, LapRan, LapStopped};
 
 use crate::Rig;
-use refusals::Refusal;
+use refusals::{Refusal, RefusalNumber};
 
 // Why a list of moves is refused.
 #[derive(Clone, Copy, PartialEq, Eq, Debug)]
@@ -30,8 +30,14 @@ impl From<Unfit> for Refusal {
 
     fn from(e: Unfit) -> Refusal {
         match e {
-            Unfit::NoMove { position } => Refusal::in_list(10, 0, position),
-            Unfit::Unlawful { lap, position } => Refusal::in_list(11, lap, position),
+            Unfit::NoMove { position } => {
+                let number = RefusalNumber::NoMove as u8;
+                Refusal::in_list(number, 0, position)
+            }
+            Unfit::Unlawful { lap, position } => {
+                let number = RefusalNumber::NotLawful as u8;
+                Refusal::in_list(number, lap, position)
+            }
         }
     }
 }

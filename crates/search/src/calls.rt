@@ -3,7 +3,7 @@ ghost use Rattle.std.specs.Prelude.{◌≡◌};
 ghost use Rattle.search.specs.Short.{short_told};
 
 use crate::copy::Uncopied;
-use refusals::Refusal;
+use refusals::{Refusal, RefusalNumber};
 use rig::Verdict;
 
 // A call on a book.
@@ -68,7 +68,10 @@ impl From<Short> for Refusal {
 
     fn from(e: Short) -> Refusal {
         match e {
-            Short::Replies { needed } | Short::Bytes { needed } => Refusal::of_length(9, needed),
+            Short::Replies { needed } | Short::Bytes { needed } => Refusal::of_length(
+                RefusalNumber::TooShort as u8,
+                needed,
+            ),
         }
     }
 }
