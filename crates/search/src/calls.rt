@@ -67,11 +67,7 @@ impl From<Short> for Refusal {
     ghost from_gives = { λ e r. r ≡ short_told e };
 
     fn from(e: Short) -> Refusal {
-        match e {
-            Short::Replies { needed } | Short::Bytes { needed } => Refusal::of_length(
-                RefusalNumber::TooShort as u8,
-                needed,
-            ),
-        }
+        let (Short::Replies { needed } | Short::Bytes { needed }) = e;
+        Refusal::of_length(RefusalNumber::TooShort as u8, needed)
     }
 }
