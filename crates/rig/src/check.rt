@@ -5,7 +5,7 @@ ghost use Rattle.rig.specs.Orders.{LawfulForEver};
 ghost use Rattle.rig.specs.Checks.{told, Checked, FirstNoMove, OnlyMoves, LapRan, LapStopped};
 
 use crate::Rig;
-use refusals::Refusal;
+use refusals::{Refusal, RefusalNumber};
 
 // Why a list of moves is refused.
 #[derive(Clone, Copy, PartialEq, Eq, Debug)]
@@ -21,9 +21,23 @@ impl Unfit {
     pub fn told(&self) -> Refusal
         ensures { result ≡ told self.now }
     {
-        match *self {
-            Unfit::NoMove { position } => Refusal::in_list(10, 0, position),
-            Unfit::Unlawful { lap, position } => Refusal::in_list(11, lap, position),
+        Refusal::from(*self)
+    }
+}
+
+impl From<Unfit> for Refusal {
+    ghost from_gives = { λ e r. r ≡ told e };
+
+    fn from(e: Unfit) -> Refusal {
+        match e {
+            Unfit::NoMove { position } => {
+                let number = RefusalNumber::NoMove as u8;
+                Refusal::in_list(number, 0, position)
+            }
+            Unfit::Unlawful { lap, position } => {
+                let number = RefusalNumber::NotLawful as u8;
+                Refusal::in_list(number, lap, position)
+            }
         }
     }
 }
@@ -35,12 +49,7 @@ fn first_no_move(moves: u8, list: &[u8]) -> Option<usize>
     if list.is_empty() {
         return Some(0);
     }
-    for (k, j) in list.iter().enumerate() {
-        if *j >= moves {
-            return Some(k);
-        }
-    }
-    None
+    list.iter().position(|j| *j >= moves)
 }
 
 // One lap from a state: the state after it, or the position of the first unlawful move.
@@ -69,10 +78,7 @@ pub fn check_list<R: Rig>(rig: &R, list: &[u8]) -> Result<u32, Unfit>
     let mut first = rig.rest();
     let mut lap = 1u32;
     loop {
-        let last = match run_lap(rig, first, list) {
-            Ok(s) => s,
-            Err(position) => return Err(Unfit::Unlawful { lap, position }),
-        };
+        let last = run_lap(rig, first, list).map_err(|position| Unfit::Unlawful { lap, position })?;
         if rig.covers(&last, &first) {
             return Ok(lap);
         }

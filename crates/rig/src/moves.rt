@@ -25,12 +25,7 @@ impl Moves {
     pub fn holds(&self, j: u8) -> bool
         ensures { result ≡ in_set self.now.held j }
     {
-        let at = j as usize;
-        if at < MOST_MOVES {
-            self.held[at]
-        } else {
-            false
-        }
+        self.held.get(j as usize).copied().unwrap_or(false)
     }
 
     // The set with this move besides; a number that is no move adds nothing.

@@ -5,13 +5,13 @@ ghost use Rattle.rig.specs.Verdicts.{verdict_number};
 #[derive(Clone, Copy, PartialEq, Eq, Debug)]
 pub enum Verdict {
     // No round is lawful for ever.
-    NoRound,
+    NoRound = 0,
     // A round was found.
-    Round,
+    Round = 1,
     // The search goes on.
-    Open,
+    Open = 2,
     // No room is left to search in.
-    Full,
+    Full = 3,
 }
 
 impl Verdict {
@@ -19,11 +19,6 @@ impl Verdict {
     pub fn number(&self) -> u8
         ensures { result ≡ verdict_number self.now }
     {
-        match *self {
-            Verdict::NoRound => 0,
-            Verdict::Round => 1,
-            Verdict::Open => 2,
-            Verdict::Full => 3,
-        }
+        *self as u8
     }
 }

@@ -1,5 +1,5 @@
 -- What entering a state and settling a move come to, from what the scans found.
-use Rattle.std.proofs.Common.{◌≡◌, ℕ, ◌<◌, ◌≤◌, Bool, true, false, not, ◌&&◌, eqb, List, length, get_or, Some, None, Decides, sym, subst, arith}
+use Rattle.std.proofs.Common.{◌≡◌, ℕ, ◌<◌, ◌≤◌, Bool, true, false, not, ◌&&◌, eqb, List, length, get_or, take, Some, None, Decides, MatchOption, Option, unwrap_or, sym, subst, arith}
 use Rattle.std.proofs.lemmas.Bool.Decides.{not_from_Decides}
 use Rattle.std.proofs.lemmas.List.Elements.{at_read}
 use Rattle.rig.specs.Meaning.{Laws, lawful, after}
@@ -9,10 +9,20 @@ use Rattle.search.specs.declared.row.Row.{Row}
 use Rattle.search.specs.Rows.{DeadHolds, Latest, covered_by, on_path, untried_in, usable}
 use Rattle.search.specs.Steps.{Dead, Leads, Next, Settles, Unlike}
 use Rattle.search.specs.Steps.Next.{from_end}
+use Rattle.search.proofs.Rows.{dead_from_taken, latest_from_taken}
+
+-- what holds of a value, or else of the one in its place
+pub holds_or : {X : Type 0} (P : Type 0) (Q : X → Type 0) (o : Option X) (d : X) → MatchOption o P Q → (P → Q d) → Q (unwrap_or o d)
+holds_or P Q None d h otherwise = otherwise h
+holds_or P Q (Some x) d h otherwise = h
 
 module _ {S : Type 0} (m : Guided S) (rows : List (Row S)) (n : ℕ) where
-  pub unlike : (s : S) (b : Bool) → Latest (covered_by m.rig s) rows n None → Decides b (DeadHolds rows n s) → b ≡ false → Unlike m rows n s
-  unlike s b path dead e = record { path = path; dead = not_from_Decides b dead e }
+  -- where the scans of the rows taken find nothing
+  pub unlike : n ≤ usable (length rows) → (s : S) (b : Bool) → Latest (covered_by m.rig s) (take n rows) (length (take n rows)) None → Decides b (DeadHolds (take n rows) (length (take n rows)) s) → b ≡ false → Unlike m rows n s
+  unlike within s b path dead e = record {
+    path = latest_from_taken rows n (omega (arith, within)) (covered_by m.rig s) None path;
+    dead = not_from_Decides b (dead_from_taken rows n (omega (arith, within)) s b dead) e;
+  }
 
   -- r is read at the end of the path, and j is untried in it
   module _ (at : ℕ) (within : n ≤ usable (length rows)) (end : Latest on_path rows n (Some at)) (r : Row S) (read : r ≡ get_or rows at r) (j : ℕ) (was : untried_in r j ≡ true) where

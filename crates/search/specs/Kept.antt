@@ -16,13 +16,13 @@ module _ {S : Type 0} where
   abbrev pub states : List (Row S) → ℕ → List S
   states rows n = map (λ r. r.state) (take n rows)
 
-  -- the moves that led to the rows on the path, of those from i to n
-  abbrev pub path_moves : List (Row S) → ℕ → ℕ → List ℕ
-  path_moves rows i n = map (λ r. r.by) (filter on_path (between i n rows))
+  -- the moves that led to those of the rows that are on the path
+  abbrev pub path_moves : List (Row S) → List ℕ
+  path_moves rows = map (λ r. r.by) (filter on_path rows)
 
   -- The round that a book has found: it leaves the state of row p, goes along the path, and ends with one move more.
   abbrev pub round_moves : List (Row S) → ℕ → ℕ → ℕ → List ℕ
-  round_moves rows n p last = path_moves rows (p + 1) n ++ last ∷ []
+  round_moves rows n p last = path_moves (between (p + 1) n rows) ++ last ∷ []
 
 module _ {S : Type 0} (m : Meaning S) where
   -- Each state follows the one before it by the lawful move that stands beside it.

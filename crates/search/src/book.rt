@@ -11,7 +11,7 @@ ghost use Rattle.search.specs.declared.step.Standing.TheVariants.{Full, Open, Ro
 use crate::copy::Uncopied;
 use crate::round::{path_length, write_round};
 use crate::row::Row;
-use crate::step::{Standing, Step, next_step};
+use crate::step::{Search, Standing, Step};
 use rig::{GuidedRig, Verdict};
 
 // A book over a lent table of rows: it has taken the first `taken` of them.
@@ -57,13 +57,7 @@ impl<'a, S: Copy + Drop> Book<'a, S> {
     pub fn verdict(&self) -> (Verdict, usize)
         ensures { result ≡ (verdict_of self.now.standing, self.now.taken) }
     {
-        let verdict = match self.standing {
-            Standing::Open => Verdict::Open,
-            Standing::NoRound => Verdict::NoRound,
-            Standing::Full => Verdict::Full,
-            Standing::Round { from: _, last: _ } => Verdict::Round,
-        };
-        (verdict, self.taken)
+        (Verdict::from(self.standing), self.taken)
     }
 
     // Writes the round, a byte a move, into the front of a buffer, and tells its length.
@@ -74,11 +68,12 @@ impl<'a, S: Copy + Drop> Book<'a, S> {
             return Err(Uncopied::NoRound);
         };
         let rows = &*self.rows;
-        let needed = path_length(rows, from + 1, self.taken) + 1;
+        let path = &rows[from + 1..self.taken];
+        let needed = path_length(path) + 1;
         if out.len() < needed {
             return Err(Uncopied::Short { needed });
         }
-        write_round(rows, self.taken, from, last, out);
+        write_round(path, last, out);
         Ok(needed)
     }
 
@@ -87,7 +82,13 @@ impl<'a, S: Copy + Drop> Book<'a, S> {
         ensures { Stepped (guided (R.Rig.means rig.now) (R.GuidedRig.guide rig.now)) self.now.rows.now self.now.taken left result }
     {
         let rows = &*self.rows;
-        next_step(rig, rows, self.taken, left)
+        let search = Search {
+            rig,
+            rows,
+            taken: self.taken,
+            left,
+        };
+        search.next_step()
     }
 
     // Writes a row.
@@ -109,7 +110,7 @@ impl<'a, S: Copy + Drop> Book<'a, S> {
         ensures sound { (granted : ℕ) → Sound (guided (R.Rig.means rig.now) (R.GuidedRig.guide rig.now)) granted self.old.rows.now self.old.taken self.old.standing → Sound (guided (R.Rig.means rig.now) (R.GuidedRig.guide rig.now)) (granted + visits) self.new.rows.now self.new.taken self.new.standing }
     {
         let Standing::Open = self.standing else {
-            return (self.verdict().0, 0);
+            return (Verdict::from(self.standing), 0);
         };
         let mut made = 0;
         loop {
@@ -123,7 +124,7 @@ impl<'a, S: Copy + Drop> Book<'a, S> {
                 }
                 Step::End { standing } => {
                     self.standing = standing;
-                    return (self.verdict().0, made);
+                    return (Verdict::from(standing), made);
                 }
             }
         }

@@ -3,7 +3,7 @@ ghost use Rattle.std.specs.Prelude.{◌≡◌};
 ghost use Rattle.search.specs.Short.{short_told};
 
 use crate::copy::Uncopied;
-use refusals::Refusal;
+use refusals::{Refusal, RefusalNumber};
 use rig::Verdict;
 
 // A call on a book.
@@ -59,9 +59,15 @@ impl Short {
     pub fn told(&self) -> Refusal
         ensures { result ≡ short_told self.now }
     {
-        match *self {
-            Short::Replies { needed } => Refusal::of_length(9, needed),
-            Short::Bytes { needed } => Refusal::of_length(9, needed),
-        }
+        Refusal::from(*self)
+    }
+}
+
+impl From<Short> for Refusal {
+    ghost from_gives = { λ e r. r ≡ short_told e };
+
+    fn from(e: Short) -> Refusal {
+        let (Short::Replies { needed } | Short::Bytes { needed }) = e;
+        Refusal::of_length(RefusalNumber::TooShort as u8, needed)
     }
 }

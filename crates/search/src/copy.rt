@@ -2,7 +2,7 @@
 ghost use Rattle.std.specs.Prelude.{◌≡◌};
 ghost use Rattle.search.specs.Uncopied.{told};
 
-use refusals::Refusal;
+use refusals::{Refusal, RefusalNumber};
 
 #[derive(Clone, Copy, PartialEq, Eq, Debug)]
 pub enum Uncopied {
@@ -17,9 +17,17 @@ impl Uncopied {
     pub fn told(&self) -> Refusal
         ensures { result ≡ told self.now }
     {
-        match *self {
-            Uncopied::NoRound => Refusal::of_length(8, 0),
-            Uncopied::Short { needed } => Refusal::of_length(9, needed),
+        Refusal::from(*self)
+    }
+}
+
+impl From<Uncopied> for Refusal {
+    ghost from_gives = { λ e r. r ≡ told e };
+
+    fn from(e: Uncopied) -> Refusal {
+        match e {
+            Uncopied::NoRound => Refusal::of_length(RefusalNumber::NoRound as u8, 0),
+            Uncopied::Short { needed } => Refusal::of_length(RefusalNumber::TooShort as u8, needed),
         }
     }
 }

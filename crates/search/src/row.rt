@@ -17,12 +17,7 @@ pub struct Row<S> {
 pub(crate) fn lowest(moves: &Moves) -> Option<u8>
     ensures { Lowest (in_set moves.now.held) result }
 {
-    for j in 0..MOST_MOVES {
-        if moves.holds(j) {
-            return Some(j);
-        }
-    }
-    None
+    (0..MOST_MOVES).find(|j| moves.holds(*j))
 }
 
 impl<S: Copy + Drop> Row<S> {

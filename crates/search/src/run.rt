@@ -1,5 +1,5 @@
 // Runs a list of calls on a book that it makes.
-ghost use Rattle.std.specs.Prelude.{◌≡◌, ℕ, ◌*◌, ◌^◌, ◌<◌, ◌≤◌, length, MatchOption};
+ghost use Rattle.std.specs.Prelude.{◌≡◌, ℕ, ◌*◌, ◌^◌, ◌<◌, ◌≤◌, length, MatchResult};
 ghost use Rattle.rig.specs.Guides.{Guided, guided};
 ghost use Rattle.search.specs.Kept.{Sound};
 ghost use Rattle.search.specs.Rows.{usable as usable-of};
@@ -26,13 +26,9 @@ fn buffer<R>(call: &Call<R>) -> usize
 // How many bytes the buffers of the calls take together.
 fn all_buffers<R>(calls: &[Call<R>]) -> u128
     ensures value { result ≡ buffers calls.now }
-    ensures few { result ≤ length calls.now * 18446744073709551615 }
+    ensures few { result ≤ 2 ^ 64 * 18446744073709551615 }
 {
-    let mut all = 0u128;
-    for call in calls {
-        all += buffer(call) as u128;
-    }
-    all
+    calls.iter().map(|call| buffer(call) as u128).sum()
 }
 
 // Makes one call, with its buffer.
@@ -61,25 +57,21 @@ fn make_call<R: GuidedRig>(book: &mut Book<R::State>, call: &Call<R>, out: &mut 
     }
 }
 
-// What a list of calls lacks to be run, if anything.
-fn lacking<R>(rows: usize, calls: &[Call<R>], replies: usize, room: usize) -> Option<Short>
+// Whether there is room for a list of calls to be run.
+fn check_room<R>(rows: usize, calls: &[Call<R>], replies: usize, room: usize) -> Result<(), Short>
     requires { length calls.now < 2 ^ 64 }
-    ensures { MatchOption result ((length calls.now ≤ replies) × (bytes_needed rows calls.now ≤ room)) (λ e. TooFew rows calls.now replies room e) }
+    ensures { MatchResult result (λ _. (length calls.now ≤ replies) × (bytes_needed rows calls.now ≤ room)) (λ e. TooFew rows calls.now replies room e) }
 {
     let needed = calls.len();
     if replies < needed {
-        return Some(Short::Replies { needed });
+        return Err(Short::Replies { needed });
     }
     let all = all_buffers(calls) + usable(rows) as u128;
-    if all <= room as u128 {
-        return None;
+    if all > room as u128 {
+        let needed = usize::try_from(all).unwrap_or(usize::MAX);
+        return Err(Short::Bytes { needed });
     }
-    let needed = if all <= usize::MAX as u128 {
-        all as usize
-    } else {
-        usize::MAX
-    };
-    Some(Short::Bytes { needed })
+    Ok(())
 }
 
 // Asks the verdict and copies the round, into a buffer that is long enough.
@@ -91,10 +83,7 @@ fn outcome<S: Copy + Drop>(book: &Book<S>, from: usize, out: &mut [u8]) -> Outco
     ensures copied { LastCopied (book_state book.now.rows.now book.now.taken book.now.standing) out.old result.round out.new }
 {
     let (verdict, taken) = book.verdict();
-    let round = match book.copy(out) {
-        Ok(length) => Some(length),
-        Err(_) => None,
-    };
+    let round = book.copy(out).ok();
     Outcome {
         verdict,
         taken,
@@ -115,11 +104,10 @@ pub fn run_calls<R: GuidedRig>(
 ) -> Result<Outcome, Short>
     ensures { Searched (λ r. guided (R.Rig.means r) (R.GuidedRig.guide r)) rows.old calls.now replies.old room.old rows.new replies.new room.new result }
 {
-    if let Some(short) = lacking(rows.len(), calls, replies.len(), room.len()) {
-        return Err(short);
-    }
+    check_room(rows.len(), calls, replies.len(), room.len())?;
     let mut book = Book::new(rows);
     let mut at = 0;
+    // Replies are written by their index: of what a zip over `iter_mut` has written, no proof can say anything.
     for (k, call) in calls.iter().enumerate() {
         let end = at + buffer(call);
         replies[k] = make_call(&mut book, call, &mut room[at..end]);

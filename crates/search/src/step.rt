@@ -1,13 +1,14 @@
 // One step of a search: what to do next, without doing it.
-ghost use Rattle.std.specs.Prelude.{◌≡◌, ℕ, ◌<◌, ◌≤◌, true, length, Some, MatchOption, nat_lt};
+ghost use Rattle.std.specs.Prelude.{◌≡◌, ℕ, ◌≤◌, true, length, Some, MatchOption, nat_lt};
 ghost use Rattle.rig.specs.Guides.{guided};
 ghost use Rattle.rig.specs.Sets.{in_set};
+ghost use Rattle.search.specs.Grants.{verdict_of};
 ghost use Rattle.search.specs.Rows.{Latest, on_path, untried_in, usable as usable-of};
 ghost use Rattle.search.specs.Steps.{Dead, Next, Stepped};
 
 use crate::row::{Row, lowest};
 use crate::scan::{is_dead, latest_covered, path_end};
-use rig::{GuidedRig, Moves, Rig};
+use rig::{GuidedRig, Moves, Rig, Verdict};
 
 // The most rows that a book uses.
 pub const MOST_ROWS: usize = 65536;
@@ -20,6 +21,19 @@ pub enum Standing {
     Full,
     // The round leaves the state of row `from`, goes along the path, and ends with the move `last`.
     Round { from: usize, last: u8 },
+}
+
+impl From<Standing> for Verdict {
+    ghost from_gives = { λ s v. v ≡ verdict_of s };
+
+    fn from(standing: Standing) -> Verdict {
+        match standing {
+            Standing::Open => Verdict::Open,
+            Standing::NoRound => Verdict::NoRound,
+            Standing::Full => Verdict::Full,
+            Standing::Round { from: _, last: _ } => Verdict::Round,
+        }
+    }
 }
 
 // What to do next.
@@ -52,47 +66,6 @@ fn all_moves<R: Rig>(rig: &R) -> Moves
     all
 }
 
-// Enters a state, to which a move leads; none where the state is dead.
-fn enter<R: GuidedRig>(
-    rig: &R,
-    rows: &[Row<R::State>],
-    taken: usize,
-    left: u32,
-    state: R::State,
-    by: u8,
-) -> Option<Step<R::State>>
-    requires within { taken ≤ usable-of (length rows.now) }
-    requires next { Next (guided (R.means rig.now) (R.guide rig.now)) rows.now taken by state }
-    requires proper { (R.means rig.now).proper state ≡ true }
-    ensures { MatchOption result (Dead (guided (R.means rig.now) (R.guide rig.now)) rows.now taken state) (λ x. Stepped (guided (R.means rig.now) (R.guide rig.now)) rows.now taken left x) }
-{
-    if rig.hopeless(&state) {
-        return None;
-    }
-    if let Some(from) = latest_covered(rig, rows, taken, &state) {
-        return Some(Step::End {
-            standing: Standing::Round { from, last: by },
-        });
-    }
-    if is_dead(rig, rows, taken, &state) {
-        return None;
-    }
-    if taken >= usable(rows.len()) {
-        return Some(Step::End {
-            standing: Standing::Full,
-        });
-    }
-    if left == 0 {
-        return Some(Step::End {
-            standing: Standing::Open,
-        });
-    }
-    let untried = all_moves(rig);
-    Some(Step::Take {
-        row: Row { state, by, untried },
-    })
-}
-
 // The rig's choice among the untried moves of a row; where that is none of them, the lowest.
 fn chosen<R: GuidedRig>(rig: &R, row: &Row<R::State>) -> u8
     requires { on_path row.now ≡ true }
@@ -105,67 +78,95 @@ fn chosen<R: GuidedRig>(rig: &R, row: &Row<R::State>) -> u8
     lowest(&row.untried).unwrap_or(0)
 }
 
-// A fresh book enters rest.
-fn first_step<R: GuidedRig>(rig: &R, rows: &[Row<R::State>], left: u32) -> Step<R::State>
-    ensures { Stepped (guided (R.means rig.now) (R.guide rig.now)) rows.now 0 left result }
-{
-    match enter(rig, rows, 0, left, rig.rest(), 0) {
-        Some(step) => step,
-        None => Step::End {
-            standing: Standing::NoRound,
-        },
-    }
+// A search as it stands: over a rig, in a table of which so many rows are taken, with so many visits left.
+#[derive(Drop)]
+pub(crate) struct Search<'a, R: GuidedRig> {
+    pub(crate) rig: &'a R,
+    pub(crate) rows: &'a [Row<R::State>],
+    pub(crate) taken: usize,
+    pub(crate) left: u32,
+    ghost within: { taken ≤ usable-of (length rows.now) },
 }
 
-// Tries the chosen move at the end of the path.
-fn try_move<R: GuidedRig>(
-    rig: &R,
-    rows: &[Row<R::State>],
-    taken: usize,
-    left: u32,
-    at: usize,
-) -> Step<R::State>
-    requires within { taken ≤ usable-of (length rows.now) }
-    requires end { Latest on_path rows.now taken (Some at) }
-    ensures { Stepped (guided (R.means rig.now) (R.guide rig.now)) rows.now taken left result }
-{
-    let row = rows[at];
-    let by = chosen(rig, &row);
-    let untried = row.untried.without(by);
-    let settled = Step::Settle {
-        at,
-        row: Row {
-            state: row.state,
-            by: row.by,
-            untried,
-        },
-    };
-    if !rig.lawful(&row.state, by) {
-        return settled;
+impl<R: GuidedRig> Search<'_, R> {
+    // Enters a state, to which a move leads; none where the state is dead.
+    fn enter(&self, state: R::State, by: u8) -> Option<Step<R::State>>
+        requires next { Next (guided (R.means self.now.rig.now) (R.guide self.now.rig.now)) self.now.rows.now self.now.taken by state }
+        requires proper { (R.means self.now.rig.now).proper state ≡ true }
+        ensures { MatchOption result (Dead (guided (R.means self.now.rig.now) (R.guide self.now.rig.now)) self.now.rows.now self.now.taken state) (λ x. Stepped (guided (R.means self.now.rig.now) (R.guide self.now.rig.now)) self.now.rows.now self.now.taken self.now.left x) }
+    {
+        if self.rig.hopeless(&state) {
+            return None;
+        }
+        let taken = &self.rows[..self.taken];
+        if let Some(from) = latest_covered(self.rig, taken, &state) {
+            return Some(Step::End {
+                standing: Standing::Round { from, last: by },
+            });
+        }
+        if is_dead(self.rig, taken, &state) {
+            return None;
+        }
+        if self.taken >= usable(self.rows.len()) {
+            return Some(Step::End {
+                standing: Standing::Full,
+            });
+        }
+        if self.left == 0 {
+            return Some(Step::End {
+                standing: Standing::Open,
+            });
+        }
+        let untried = all_moves(self.rig);
+        Some(Step::Take {
+            row: Row { state, by, untried },
+        })
     }
-    match enter(rig, rows, taken, left, rig.after(&row.state, by), by) {
-        Some(step) => step,
-        None => settled,
-    }
-}
 
-// What an open book does next.
-pub(crate) fn next_step<R: GuidedRig>(
-    rig: &R,
-    rows: &[Row<R::State>],
-    taken: usize,
-    left: u32,
-) -> Step<R::State>
-    requires { taken ≤ usable-of (length rows.now) }
-    ensures { Stepped (guided (R.means rig.now) (R.guide rig.now)) rows.now taken left result }
-{
-    if taken == 0 {
-        return first_step(rig, rows, left);
-    }
-    match path_end(rows, taken) {
-        Some(at) => try_move(rig, rows, taken, left, at),
-        None => Step::End {
+    // A fresh book enters rest.
+    fn first_step(&self) -> Step<R::State>
+        requires { self.now.taken ≡ 0 }
+        ensures { Stepped (guided (R.means self.now.rig.now) (R.guide self.now.rig.now)) self.now.rows.now self.now.taken self.now.left result }
+    {
+        self.enter(self.rig.rest(), 0).unwrap_or(Step::End {
             standing: Standing::NoRound,
-        },
+        })
+    }
+
+    // Tries the chosen move at the end of the path.
+    fn try_move(&self, at: usize) -> Step<R::State>
+        requires { Latest on_path self.now.rows.now self.now.taken (Some at) }
+        ensures { Stepped (guided (R.means self.now.rig.now) (R.guide self.now.rig.now)) self.now.rows.now self.now.taken self.now.left result }
+    {
+        let row = self.rows[at];
+        let by = chosen(self.rig, &row);
+        let settled = Step::Settle {
+            at,
+            row: Row {
+                state: row.state,
+                by: row.by,
+                untried: row.untried.without(by),
+            },
+        };
+        if !self.rig.lawful(&row.state, by) {
+            return settled;
+        }
+        self.enter(self.rig.after(&row.state, by), by)
+            .unwrap_or(settled)
+    }
+
+    // What an open book does next.
+    pub(crate) fn next_step(&self) -> Step<R::State>
+        ensures { Stepped (guided (R.means self.now.rig.now) (R.guide self.now.rig.now)) self.now.rows.now self.now.taken self.now.left result }
+    {
+        if self.taken == 0 {
+            return self.first_step();
+        }
+        match path_end(&self.rows[..self.taken]) {
+            Some(at) => self.try_move(at),
+            None => Step::End {
+                standing: Standing::NoRound,
+            },
+        }
     }
 }

@@ -1,25 +1,43 @@
-use Rattle.std.proofs.Common.{◌+◌, ◌++◌, drop, sym, refl, ap, ◌∙◌, arith}
-use Rattle.std.proofs.lemmas.List.{length_push}
-use Rattle.search.specs.Kept.{path_moves, round_moves}
-use Rattle.search.proofs.Rounds.{wrote_more}
+use Rattle.std.proofs.Common.{◌≡◌, ◌+◌, ◌<◌, [], ◌∷◌, ◌++◌, length, take, drop, sym, refl, ap, ◌∙◌, arith}
+use Rattle.std.proofs.lemmas.List.{length_push, take_all}
+use Rattle.search.specs.Kept.{path_moves}
+use Rattle.search.proofs.Rounds.{moves_more, moves_room, moves_same, wrote_more}
 use Rattle.search.proofs.round.write_round.Goals as goal
-
-pub write_path-at-requires : goal.write_path-at-requires
-write_path-at-requires g c =
-    let long = length_push (path_moves c.args.rows.now (c.args.from + 1) c.args.taken) c.args.last in
-    record { order = omega (arith, c.requires.begins); within = c.requires.within; room = omega (arith, long, c.requires.room) }
+use Rattle.search.proofs.round.write_round.Goals.{then-is_open, else-is_open}
 
 pub bounds-out-at : goal.bounds-out-at
 bounds-out-at g c =
-    let long = length_push (path_moves c.args.rows.now (c.args.from + 1) c.args.taken) c.args.last in
-    omega (arith, long, c.requires.room, c.write_path-at.ensures.value, c.write_path-at.auto.out)
+    let room = moves_room c.args.rows.now c.loop-row.row-index c.row-item.result c.loop-row-test.true c.row-item.is (sym c.is_open.ensures ∙ c.if-is_open.true) in
+    omega (arith, room, length_push (path_moves c.args.rows.now) c.args.last, c.requires, c.loop-row.invariant.0, c.loop-row.auto.out)
+
+pub loop-row-preserved : goal.loop-row-preserved
+loop-row-preserved g c =
+    let rows = c.args.rows.now in
+    let k = c.loop-row.row-index in
+    let r = c.row-item.result in
+    let out = c.args.out.now in
+    let next = path_moves (take (k + 1) rows) in
+    elim c.if-is_open.branch [
+      | then-is_open w ↦
+          let opens = sym c.is_open.ensures ∙ w.if-is_open.true in
+          let grown = moves_more rows k r c.loop-row-test.true c.row-item.is opens in
+          let room = moves_room rows k r c.loop-row-test.true c.row-item.is opens in
+          let far : c.loop-row.at < length out = omega (arith, room, length_push (path_moves rows) c.args.last, c.requires, c.loop-row.invariant.0) in
+          let wrote = wrote_more (path_moves (take k rows)) next out c.loop-row.out c.loop-row.at r.by c.loop-row.invariant.0 far grown c.loop-row.invariant.1 in
+          (omega (arith, w.at-is, ap length grown, length_push (path_moves (take k rows)) r.by, c.loop-row.invariant.0), w.out-is ∙ wrote ∙ ap (λ n. next ++ drop n out) (sym w.at-is))
+      | else-is_open w ↦
+          let same = moves_same rows k r c.loop-row-test.true c.row-item.is (sym c.is_open.ensures ∙ w.if-is_open.false) in
+          (w.at-is ∙ c.loop-row.invariant.0 ∙ ap length (sym same), w.out-is ∙ c.loop-row.invariant.1 ∙ ap (λ xs. xs ++ drop c.loop-row.at out) (sym same) ∙ ap (λ n. next ++ drop n out) (sym w.at-is))
+    ]
 
 pub returns : goal.returns
 returns g c =
-    let rows = c.args.rows.now in
-    let ws = path_moves rows (c.args.from + 1) c.args.taken in
-    let round = round_moves rows c.args.taken c.args.from c.args.last in
-    let long = length_push ws c.args.last in
-    let at = c.write_path-at.result in
-    wrote_more ws round c.args.out.now c.write_path-at.new.out at c.args.last c.write_path-at.ensures.value (omega (arith, long, c.requires.room, c.write_path-at.ensures.value)) refl c.write_path-at.ensures.wrote
-    ∙ ap (λ n. round ++ drop n c.args.out.now) (ap (λ n. n + 1) c.write_path-at.ensures.value ∙ sym long)
+    let out = c.args.out.now in
+    let moves = path_moves c.args.rows.now in
+    let round = moves ++ c.args.last ∷ [] in
+    let long = length_push moves c.args.last in
+    let all = ap path_moves (take_all c.loop-row.row-index c.args.rows.now (omega (arith, c.loop-row-test.false))) in
+    let at : c.loop-row.at ≡ length moves = c.loop-row.invariant.0 ∙ ap length all in
+    let wrote = c.loop-row.invariant.1 ∙ ap (λ xs. xs ++ drop c.loop-row.at out) all in
+    wrote_more moves round out c.loop-row.out c.loop-row.at c.args.last at (omega (arith, at, long, c.requires)) refl wrote
+    ∙ ap (λ n. round ++ drop n out) (ap (λ n. n + 1) at ∙ sym long)

@@ -1,19 +1,12 @@
-use Rattle.std.proofs.Common.{◌≡◌, length, ap, ◌∙◌, arith}
-use Rattle.std.proofs.lemmas.List.{take_all}
-use Rattle.std.proofs.lemmas.List.Sums.{sum_by_more}
-use Rattle.search.specs.Calls.{buffer_of, buffers}
+use Rattle.std.proofs.Common.{◌≤◌, ◌*◌, ◌+◌, ◌^◌, length, arith, rules}
+use borrow.Author.Tests.{tests}
+use Rattle.std.proofs.lemmas.Iterator.{YieldsList-from_slice}
+use Rattle.std.proofs.lemmas.Iterator.Adapters.{at_most_from_yields_List, fits_from_length}
 use Rattle.search.proofs.run.all_buffers.Goals as goal
 
-pub loop-call-preserved : goal.loop-call-preserved
-loop-call-preserved g c =
-    let call = c.call-item.result in
-    let more = sum_by_more buffer_of c.args.calls.now c.loop-call.call-index call c.loop-call-test.true in
-    (omega (arith, more, c.loop-call.invariant.0, c.buffer.ensures, ap buffer_of c.call-item.is), omega (arith, c.loop-call.invariant.1))
-
-pub returns : goal.returns
-returns g c =
-    let all : c.loop-call.call-index ≡ length c.args.calls.now = omega (arith, c.loop-call.auto.call-index-end) in
-    record {
-      value = c.loop-call.invariant.0 ∙ ap buffers (take_all c.loop-call.call-index c.args.calls.now (omega arith));
-      few = omega (arith, c.loop-call.invariant.1);
-    }
+pub returns-clause-few : goal.returns-clause-few
+returns-clause-few g c =
+    let run = c.sum.ensures.runs tt in
+    let small : length c.args.calls.now ≤ 2 ^ 64 = omega (arith, c.iter.ensures.len, c.iter.ensures.bound) in
+    let fits = fits_from_length _ _ (2 ^ 64) (2 ^ 64 * 18446744073709551615 + 1) (at_most_from_yields_List (YieldsList-from_slice c.args.calls.now cc) small) c.map.ensures.closure (omega arith) (λ x r f k. search (rules, tests)) run.0 run.0.seen run.1 in
+    omega (arith, fits, run.3)

@@ -1,4 +1,4 @@
-use Rattle.std.proofs.Common.{◌≡◌, ◌+◌, sym, refl, ap, ◌∙◌, subst, ap₂}
+use Rattle.std.proofs.Common.{◌≡◌, ◌+◌, sym, refl, ap, subst}
 use Rattle.search.specs.declared.calls.Reply.TheVariants as reply
 use Rattle.rig.specs.Guides.{guided}
 use Rattle.search.specs.Kept.{Sound}
@@ -23,15 +23,7 @@ returns-in-Grant g c =
           (c.grant-verdict.ensures.sound n (subst (λ k. Sound k n book.rows.now book.taken book.standing) (sym same) h)));
     }
 
-pub returns-in-Wipe : goal.returns-in-Wipe
-returns-in-Wipe g c =
-    let book = c.args.book.now in
+pub returns-in-Wipe-clause-sound : goal.returns-in-Wipe-clause-sound
+returns-in-Wipe-clause-sound g c m n brings h =
     let after = c.wipe.new.self in
-    let is = c.in-Wipe.is in
-    record {
-      lends = c.wipe.ensures.lends;
-      did = subst (λ x. Did x reply.Wiped c.args.out.now c.args.out.now (book_state book.rows.now book.taken book.standing) (book_state after.rows.now after.taken after.standing)) (sym is)
-          (refl, ap (λ rows. book_state rows after.taken after.standing) c.wipe.ensures.rows ∙ ap₂ (book_state book.rows.now) c.wipe.ensures.taken c.wipe.ensures.standing, refl);
-      sound = λ m n brings h.
-          subst (λ x. Sound m (granted_after n x) after.rows.now after.taken after.standing) (sym is) (c.wipe.ensures.sound m);
-    }
+    subst (λ x. Sound m (granted_after n x) after.rows.now after.taken after.standing) (sym c.in-Wipe.is) (c.wipe.ensures.sound m)

@@ -1,4 +1,4 @@
-use Rattle.std.proofs.Common.{◌≡◌, ◌+◌, ◌-◌, sym, ap, ◌∙◌, subst, arith}
+use Rattle.std.proofs.Common.{◌≡◌, ◌+◌, ◌-◌, sym, ◌∙◌, subst, arith}
 use Rattle.search.specs.declared.step.Standing.TheVariants.{Open}
 use Rattle.rig.specs.Guides.{guided}
 use Rattle.search.specs.Grants.{Granted}
@@ -46,7 +46,7 @@ returns-in-End g c =
     let e : left + c.loop-at.made ≡ c.args.visits = omega (arith, w.bounded) in
     record {
       lends = c.loop-at.invariant.1;
-      told = ap (λ p. p.0) c.verdict-in-End.ensures;
+      told = c.from-in-End.ensures;
       left = subst (λ st. Granted c.args.visits c.loop-at.made book.rows.now book.taken st c.loop-at.self.rows.now c.loop-at.self.taken c.in-End.standing) (sym was) (working_ends m c.args.visits c.loop-at.made book.rows.now book.taken c.loop-at.self.rows.now c.loop-at.self.taken w left c.in-End.standing e c.in-End.ensures);
       sound = λ granted h.
           let begun = subst (Sound m granted book.rows.now book.taken) was h in

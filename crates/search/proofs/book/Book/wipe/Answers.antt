@@ -3,5 +3,5 @@ use Rattle.search.specs.declared.step.Standing.TheVariants.{Open}
 use Rattle.search.proofs.Sound.{sound_fresh}
 use Rattle.search.proofs.book.Book.wipe.Goals as goal
 
-pub returns : goal.returns
-returns g c = record { lends = refl; rows = refl; taken = refl; standing = refl; sound = λ m. sound_fresh m c.args.self.now.rows.now 0 Open refl refl }
+pub returns-clause-sound : goal.returns-clause-sound
+returns-clause-sound g c m = sound_fresh m c.args.self.now.rows.now 0 Open refl refl
