@@ -2,3 +2,4 @@ pub mod Identical
 pub mod Served
 pub mod Unsettled
 pub mod Computed
+pub mod Chains
