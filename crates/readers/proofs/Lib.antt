@@ -1,4 +1,3 @@
-pub mod Identical
 pub mod Served
 pub mod Unsettled
 pub mod Computed
