@@ -1,4 +1,4 @@
-use Rattle.std.proofs.Common.{◌≡◌, ◌≢◌, ℕ, ◌+◌, ◌<◌, ◌≤◌, rules, tests, arith}
+use Rattle.std.proofs.Common.{◌≡◌, ℕ, ◌+◌, ◌<◌, ◌≤◌, rules, tests, arith}
 use Rattle.std.proofs.iter.Serving.{serving}
 use Rattle.banks.specs.Limits.{most_gap}
 use Rattle.banks.specs.Table.{dwell}
