@@ -1,5 +1,5 @@
 -- The bank that is due first, as a chain over the banks' numbers and deadlines finds it.
-use Rattle.std.proofs.Common.{◌≡◌, ℕ, zero, suc, ◌+◌, ◌<◌, ◌≤◌, Bool, true, false, cond, ltb, List, [], ◌∷◌, length, map, Option, Some, None, Ordering, MatchOption, sym, refl, ap, ◌∙◌, subst, add-zero, below_more, arith}
+use Rattle.std.proofs.Common.{◌≡◌, ℕ, zero, suc, ◌+◌, ◌<◌, ◌≤◌, Bool, true, false, cond, ltb, List, [], ◌∷◌, length, map, Option, Some, None, Ordering, MatchOption, sym, refl, ap, ◌∙◌, subst, add-one, add-zero, arith}
 use Rattle.std.specs.Option.{IsSomeAnd}
 use Rattle.std.specs.Ordering.{nat_cmp, min_by_ordering}
 use Rattle.std.specs.declared.cmp.Ordering.TheVariants.{Less, Equal, Greater}
@@ -13,6 +13,7 @@ use denote.Ref.{Bor}
 use denote.Param.Members.{Mut}
 use Rattle.banks.specs.Places.{age_at}
 use Rattle.deadlines.specs.Deadlines.{DueFirst, NoneUntried}
+use Rattle.deadlines.proofs.Chosen.{first_new, first_old, none_new}
 
 -- of numbers with their deadlines, the first with the least deadline
 abbrev best : ℕ × ℕ → List (ℕ × ℕ) → ℕ × ℕ
@@ -43,48 +44,20 @@ module _ {A F : Type 0} (g : Mut F (Bor A × Unit {0}) ℕ) (f : F) (w : A → �
       turns_best j xs e called.0 step.0 h.2 ∙ ap (λ v. best v (map w xs)) step.1
 
 module _ (d : ℕ → ℕ) (u : ℕ → Bool) where
-  -- what was due first among the banks below a stays so, or bank a is due before it
   module _ (a : ℕ) where
-    stays_first : (b : ℕ) → (u a ≡ true → d b ≤ d a) → DueFirst a d u b → DueFirst (a + 1) d u b
-    stays_first b late f = record {
-      bank = omega (arith, f.bank);
-      is_untried = f.is_untried;
-      earliest = below_more (λ i. u i ≡ true → d b ≤ d i) a f.earliest late;
-      lowest = below_more (λ i. u i ≡ true → d i ≡ d b → b ≤ i) a f.lowest (λ x e. omega (arith, f.bank));
-    }
-
-    becomes_first : (b : ℕ) → u a ≡ true → d a < d b → DueFirst a d u b → DueFirst (a + 1) d u a
-    becomes_first b x soon f = record {
-      bank = omega arith;
-      is_untried = x;
-      earliest = below_more (λ i. u i ≡ true → d a ≤ d i) a (λ i h y. omega (arith, f.earliest i h y)) (λ y. omega arith);
-      lowest = below_more (λ i. u i ≡ true → d i ≡ d a → a ≤ i) a (λ i h y e. omega (arith, f.earliest i h y)) (λ y e. omega arith);
-    }
-
-    begins_first : u a ≡ true → NoneUntried a u → DueFirst (a + 1) d u a
-    begins_first x none = record {
-      bank = omega arith;
-      is_untried = x;
-      earliest = below_more (λ i. u i ≡ true → d a ≤ d i) a (λ i h y. absurd (none i h y)) (λ y. omega arith);
-      lowest = below_more (λ i. u i ≡ true → d i ≡ d a → a ≤ i) a (λ i h y e. absurd (none i h y)) (λ y e. omega arith);
-    }
-
-    none_more : u a ≡ false → NoneUntried a u → NoneUntried (a + 1) u
-    none_more x none = below_more (λ i. u i ≡ true → ⊥) a none (both_ways (u a) x)
-
     module _ (l : ℕ) (due : l ≡ d a) where
       -- the better of the best so far and bank a
       better : (t : Bool) (p : ℕ × ℕ) → ltb l p.1 ≡ t → u a ≡ true → p.1 ≡ d p.0 → DueFirst a d u p.0
-          → ((cond t (a, l) p).1 ≡ d (cond t (a, l) p).0) × DueFirst (a + 1) d u (cond t (a, l) p).0
-      better true p e x pd f = (due, becomes_first p.0 x (omega (arith, ltb-true l p.1 e)) f)
-      better false p e x pd f = (pd, stays_first p.0 (λ y. omega (arith, ltb-false l p.1 e)) f)
+          → ((cond t (a, l) p).1 ≡ d (cond t (a, l) p).0) × DueFirst (suc a) d u (cond t (a, l) p).0
+      better true p e x pd f = (due, first_new d u a x (λ i h y. omega (arith, ltb-true l p.1 e, f.earliest i h y)))
+      better false p e x pd f = (pd, first_old d u a p.0 (λ y. omega (arith, ltb-false l p.1 e)) f)
 
-      module _ (rest : List (ℕ × ℕ)) (m : ℕ) (go : (q : ℕ × ℕ) → q.1 ≡ d q.0 → DueFirst (a + 1) d u q.0 → DueFirst m d u (best q rest).0) where
+      module _ (rest : List (ℕ × ℕ)) (m : ℕ) (go : (q : ℕ × ℕ) → q.1 ≡ d q.0 → DueFirst (suc a) d u q.0 → DueFirst m d u (best q rest).0) where
         best_more : (v : Bool) (p : ℕ × ℕ) → u a ≡ v → p.1 ≡ d p.0 → DueFirst a d u p.0 → DueFirst m d u (best p (cond v ((a, l) ∷ rest) rest)).0
         best_more true p x pd f =
             let step = better (ltb l p.1) p refl x pd f in
             go (cond (ltb l p.1) (a, l) p) step.0 step.1
-        best_more false p x pd f = go p pd (stays_first p.0 (λ y. absurd (both_ways (u a) x y)) f)
+        best_more false p x pd f = go p pd (first_old d u a p.0 (λ y. absurd (both_ways (u a) x y)) f)
 
   -- the untried banks among the n from a on, with their deadlines
   abbrev pub untried_due : ℕ → ℕ → List ℕ → List (ℕ × ℕ)
@@ -99,7 +72,7 @@ module _ (d : ℕ → ℕ) (u : ℕ → Bool) where
       (λ q qd h.
       let e : a + 1 + n ≡ a + suc n = omega arith in
       subst (λ (m : ℕ). DueFirst m d u (best q (untried_due (a + 1) n ds)).0) e
-      (best_first n (a + 1) ds q (λ k s. at (suc k) (omega arith) ∙ ap d (let same : a + suc k ≡ a + 1 + k = omega arith in same)) (omega arith) qd h))
+      (best_first n (a + 1) ds q (λ k s. at (suc k) (omega arith) ∙ ap d (let same : a + suc k ≡ a + 1 + k = omega arith in same)) (omega arith) qd (subst (λ (m : ℕ). DueFirst m d u q.0) (sym (add-one a)) h)))
       (u a) p refl pd f
 
   -- the first of them is due first below m, and where there are none no bank below m is untried
@@ -119,8 +92,8 @@ module _ (d : ℕ → ℕ) (u : ℕ → Bool) where
       let due : l ≡ d a = at 0 (omega arith) ∙ ap d (add-zero a) in
       let later : (k : ℕ) → k < n → age_at ds k ≡ d (a + 1 + k) = λ k s. at (suc k) (omega arith) ∙ ap d (let same : a + suc k ≡ a + 1 + k = omega arith in same) in
       found_more (u a) (a, l) (untried_due (a + 1) n ds) (a + suc n)
-      (λ x. subst (λ (m : ℕ). DueFirst m d u (best (a, l) (untried_due (a + 1) n ds)).0) e (best_first n (a + 1) ds (a, l) later (omega arith) due (begins_first a x none)))
-      (λ x. subst (λ (m : ℕ). Found m (untried_due (a + 1) n ds)) e (found n (a + 1) ds later (omega arith) (none_more a x none)))
+      (λ x. subst (λ (m : ℕ). DueFirst m d u (best (a, l) (untried_due (a + 1) n ds)).0) e (best_first n (a + 1) ds (a, l) later (omega arith) due (subst (λ (m : ℕ). DueFirst m d u a) (sym (add-one a)) (first_new d u a x (λ i h y. absurd (none i h y))))))
+      (λ x. subst (λ (m : ℕ). Found m (untried_due (a + 1) n ds)) e (found n (a + 1) ds later (omega arith) (subst (λ (m : ℕ). NoneUntried m u) (sym (add-one a)) (none_new d u a x none))))
 
   -- so what `min_by_key` picks of the chain is due first
   module _ {S A F : Type 0} {steps : S → Option A → S → Type 0} (g : Mut F (Bor A × Unit {0}) ℕ) {f : F} {s : S} (w : A → ℕ × ℕ) (n : ℕ) (ds : List ℕ)

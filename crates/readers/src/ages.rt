@@ -7,6 +7,9 @@ use banks::BankTable;
 use sheets::MOST_BANKS;
 use std::array;
 
+// The functions below take a table and ages, each by its own reference: a reader holds the one and its state the other.
+// A struct of the two would be made anew for each call, and every clause would speak of the two through it.
+
 // The age of each bank. Places without a bank have age 0.
 pub type Ages = [u16; MOST_BANKS];
 
@@ -32,7 +35,6 @@ pub(crate) fn ages_cover(table: &BankTable, a: &Ages, b: &Ages) -> bool
 
 // Whether a dwell on bank j after this settling leaves no bank waiting longer than its gap.
 pub(crate) fn in_time(table: &BankTable, ages: &Ages, j: u8, settling: u16) -> bool
-    requires { j < table.now.count }
     ensures { result ≡ in_time table.now (age_at ages.now) j settling }
 {
     let own = j as usize;

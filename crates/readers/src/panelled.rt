@@ -112,7 +112,7 @@ impl Rig for PanelledReader {
     }
 
     fn staleness(&self, s: &ReaderState) -> u32 {
-        age_sum(&self.table, &s.ages) + if s.last.is_some() { 1 } else { 0 }
+        age_sum(&self.table, &s.ages) + u32::from(s.last.is_some())
     }
 
     fn ceiling(&self) -> u32 {
@@ -148,34 +148,24 @@ impl GuidedRig for PanelledReader {
 fn panel_proper(last: Option<u8>) -> bool
     ensures { result ≡ panel_proper last }
 {
-    match last {
-        None => true,
-        Some(p) => p <= MOST_PANEL,
-    }
+    last.is_none_or(|p| p <= MOST_PANEL)
 }
 
 // Whether the first of two last panels is none or the same as the second.
-fn panel_covers(a: Option<u8>, b: Option<u8>) -> bool
-    ensures { result ≡ panel_covers a b }
+fn panel_covers(fresh: Option<u8>, stale: Option<u8>) -> bool
+    ensures { result ≡ panel_covers fresh stale }
 {
-    match (a, b) {
-        (None, _) => true,
-        (Some(_), None) => false,
-        (Some(p), Some(q)) => p == q,
-    }
+    fresh.is_none() || fresh == stale
 }
 
 // The settling before a dwell on bank j: the settle time where the panel changes, and 0 on the same panel or at first.
 fn settling_before(table: &BankTable, last: Option<u8>, j: u8) -> u16
-    requires { j < table.now.count }
     ensures { result ≡ settling table.now last j }
 {
-    match last {
-        None => 0,
-        Some(p) => if p == table.at(j as usize).panel {
-            0
-        } else {
-            table.settle()
-        },
+    let panel = table.at(j as usize).panel;
+    if last.is_none_or(|p| p == panel) {
+        0
+    } else {
+        table.settle()
     }
 }

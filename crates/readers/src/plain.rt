@@ -23,6 +23,8 @@ pub struct PlainState {
 }
 
 // The plain reader of a bank table.
+// It is no case of one generic reader with `PanelledReader`: its rules, `PlainLawful` and `PlainAfter`, speak of no settling, and
+// `TellsLawful` and `TellsAfter` do, so a trait would need a member and a law for each clause below, to share these one-line bodies.
 #[derive(Clone, Copy)]
 pub struct PlainReader {
     table: BankTable,
