@@ -10,6 +10,28 @@ below_suc : (P : ℕ → Type 0) (n : ℕ) → ((i : ℕ) → i < n → P i) →
 below_suc P n below here i h = ⊎_elim (below i) (λ l. let e : n ≡ i = omega arith in subst P e here) (cases_lt i n)
 
 module _ (d : ℕ → ℕ) (u : ℕ → Bool) where
+  module _ (n : ℕ) where
+    -- bank n is due before all untried banks of lower number
+    pub first_new : u n ≡ true → ((i : ℕ) → i < n → u i ≡ true → d n < d i) → DueFirst (suc n) d u n
+    first_new x sooner = record {
+      bank = omega arith;
+      is_untried = x;
+      earliest = below_suc (λ i. u i ≡ true → d n ≤ d i) n (λ i h y. omega (arith, sooner i h y)) (λ y. omega arith);
+      lowest = below_suc (λ i. u i ≡ true → d i ≡ d n → n ≤ i) n (λ i h y e. omega (arith, sooner i h y)) (λ y e. omega arith);
+    }
+
+    -- what is due first below n stays so where bank n is due no earlier
+    pub first_old : (b : ℕ) → (u n ≡ true → d b ≤ d n) → DueFirst n d u b → DueFirst (suc n) d u b
+    first_old b late f = record {
+      bank = omega (arith, f.bank);
+      is_untried = f.is_untried;
+      earliest = below_suc (λ i. u i ≡ true → d b ≤ d i) n f.earliest late;
+      lowest = below_suc (λ i. u i ≡ true → d i ≡ d b → b ≤ i) n f.lowest (λ x e. omega (arith, f.bank));
+    }
+
+    pub none_new : u n ≡ false → NoneUntried n u → NoneUntried (suc n) u
+    none_new x none = below_suc (λ i. u i ≡ true → ⊥) n none (both_ways (u n) x)
+
   -- some untried bank of lower number is due as early
   abbrev beaten : ℕ → Bool
   beaten n = some_below n (λ i. u i && leb (d i) (d n))
@@ -44,23 +66,6 @@ module _ (d : ℕ → ℕ) (u : ℕ → Bool) where
         (λ e. absurd (both_ways (ahead n) a (and_from (u n) (not (beaten n)) x (not_from_false (beaten n) e))))
         (cases_Bool (beaten n))
 
-    first_own : ahead n ≡ true → DueFirst (suc n) d u n
-    first_own a = record {
-      bank = omega arith;
-      is_untried = (and_parts (u n) (not (beaten n)) a).0;
-      earliest = below_suc (λ i. u i ≡ true → d n ≤ d i) n (λ i h x. omega (arith, ahead_earlier a i h x)) (λ x. omega arith);
-      lowest = below_suc (λ i. u i ≡ true → d i ≡ d n → n ≤ i) n (λ i h x e. omega (arith, ahead_earlier a i h x)) (λ x e. omega arith);
-    }
-
-    first_old : ahead n ≡ false → (b : ℕ) → DueFirst n d u b → DueFirst (suc n) d u b
-    first_old a b f = record {
-      bank = omega (arith, f.bank);
-      is_untried = f.is_untried;
-      earliest = below_suc (λ i. u i ≡ true → d b ≤ d i) n f.earliest
-          (λ x. let low = not_ahead a x in omega (arith, f.earliest low.0 low.1 low.2, low.3));
-      lowest = below_suc (λ i. u i ≡ true → d i ≡ d b → b ≤ i) n f.lowest (λ x e. omega (arith, f.bank));
-    }
-
     some_lower : ahead n ≡ false → (i : ℕ) → i < suc n → u i ≡ true → (k : ℕ) × (k < n) × (u k ≡ true)
     some_lower a =
         below_suc (λ i. u i ≡ true → (k : ℕ) × (k < n) × (u k ≡ true)) n (λ i h x. (i, h, x))
@@ -70,10 +75,12 @@ module _ (d : ℕ → ℕ) (u : ℕ → Bool) where
   earliest_first zero i h x = absurd (omega arith)
   earliest_first (suc n) i h x =
       ⊎_elim
-      (λ a. subst (DueFirst (suc n) d u) (sym (earliest_own n a)) (first_own n a))
+      (λ a. subst (DueFirst (suc n) d u) (sym (earliest_own n a)) (first_new n (and_parts (u n) (not (beaten n)) a).0 (ahead_earlier n a)))
       (λ a.
       let low = some_lower n a i h x in
-      subst (DueFirst (suc n) d u) (sym (earliest_old n a)) (first_old n a (earliest_due n d u) (earliest_first n low.0 low.1 low.2)))
+      let first = earliest_first n low.0 low.1 low.2 in
+      subst (DueFirst (suc n) d u) (sym (earliest_old n a))
+      (first_old n (earliest_due n d u) (λ y. let early = not_ahead n a y in omega (arith, first.earliest early.0 early.1 early.2, early.3)) first))
       (cases_Bool (ahead n))
 
   pub earliest_none : (n : ℕ) → NoneUntried n u → earliest_due n d u ≡ 0

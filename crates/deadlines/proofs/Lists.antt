@@ -1,22 +1,35 @@
 -- Deadlines and dwells in lists with all places.
-use Rattle.std.proofs.Common.{◌≡◌, ℕ, ◌+◌, ◌<◌, ◌≤◌, cond, leb, refl, ⊎_elim, arith}
+use Rattle.std.proofs.Common.{◌≡◌, ℕ, zero, suc, ◌+◌, ◌<◌, ◌≤◌, List, cond, leb, refl, ◌∙◌, subst, ⊎_elim, arith}
+use Rattle.std.specs.Array.{IsFromFnResult, IsFromFnResultFrom}
+use denote.Param.Members.{Mut, Called}
 use Rattle.std.proofs.lemmas.Bool.{cases_lt, le-leb, lt-leb, cond-true, cond-false, cond_both}
 use Rattle.banks.specs.declared.table.BankTable.{BankTable}
 use Rattle.banks.specs.Places.{age_at, spread, sum_below}
 use Rattle.sheets.specs.Limits.{most_banks}
 use Rattle.banks.specs.Table.{dwell}
 use Rattle.banks.proofs.Below.{sum_more}
-use Rattle.banks.proofs.Spread.{spread_at, spread_whole}
+use Rattle.banks.proofs.Spread.{spread_filled, spread_whole}
 use Rattle.deadlines.specs.Deadlines.{deadline, due_sum}
 use Rattle.deadlines.proofs.Subsets.{sum_unused}
+
+-- a list worked out place by place, by a closure that answers h of the place
+module _ {F : Type 0} (g : Mut F (ℕ × Unit {0}) ℕ) (f : F) (h : ℕ → ℕ) (answers : (i y : ℕ) (q : F) → Called g f (i, tt) y q → (q ≡ f) × (y ≡ h i)) (ys : List ℕ) where
+  filled_from : (i n : ℕ) → IsFromFnResultFrom g f ys i n → (k : ℕ) → i ≤ k → k < i + n → age_at ys k ≡ h k
+  filled_from i zero each k from below = absurd (omega arith)
+  filled_from i (suc n) each k from below =
+      let here = answers i each.1 each.0 each.3 in
+      ⊎_elim
+      (λ l. filled_from (i + 1) n (subst (λ (q : F). IsFromFnResultFrom g q ys (i + 1) n) here.0 each.4) k (omega arith) (omega arith))
+      (λ l. let e : i ≡ k = omega arith in subst (λ (j : ℕ). age_at ys j ≡ h j) e (each.2.1 0 ∙ here.1))
+      (cases_lt i k)
+
+  pub filled : IsFromFnResult g f ys most_banks → ys ≡ spread h
+  filled made = spread_filled h ys made.long (λ k l. filled_from 0 most_banks made.each k (omega arith) (omega arith))
 
 module _ (t : BankTable) where
   pub deadlines_whole : (ages : ℕ → ℕ) → age_at (spread (deadline t ages)) ≡ deadline t ages
   deadlines_whole ages =
       spread_whole (deadline t ages) (λ i h. let u = t.unused i (omega (arith, t.few)) in omega (arith, u.1, u.2))
-
-  pub dwell_at : (i : ℕ) → i < most_banks → age_at (spread (dwell t)) i ≡ dwell t i
-  dwell_at i h = spread_at (dwell t) i h
 
   -- places without a bank have nothing due
   pub due_sum_all : (d : ℕ → ℕ) (by : ℕ) → sum_below most_banks (λ i. cond (leb (d i) by) (dwell t i) 0) ≡ due_sum t d by

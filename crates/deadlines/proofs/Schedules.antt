@@ -9,7 +9,8 @@ use Rattle.banks.specs.Table.{dwell}
 use Rattle.banks.proofs.Below.{sum_le}
 use Rattle.rig.proofs.Members.{some_decides}
 use Rattle.deadlines.specs.Deadlines.{due_sum, some_overrun, Hopeless, EachOnce, NoneMeets, SomeMeets}
-use Rattle.deadlines.proofs.Subsets.{sum_agree, sum_next, sum_nothing, sum_ones, sum_of, without, without_parts, without_from, sum_without, sum_none_of, counts_none}
+use Rattle.banks.proofs.Below.{sum_none}
+use Rattle.deadlines.proofs.Subsets.{sum_agree, sum_next, sum_ones, sum_of, without, without_parts, without_from, sum_without, sum_none_of, counts_none}
 
 -- an order of as many places as a set has members, all of them members, leaves out none of the sum
 module _ (n : ℕ) (o g : ℕ → ℕ) where
@@ -35,7 +36,7 @@ module _ (n : ℕ) (d w : ℕ → ℕ) where
 
   -- if an order meets the deadlines, the dwells in it that are due by a tick take no longer
   due_within : (o : ℕ → ℕ) (by m : ℕ) → ((k : ℕ) → k < m → sum_below (suc k) (λ j. w (o j)) ≤ d (o k)) → sum_below m (λ k. due by (o k)) ≤ by
-  due_within o by zero meets = omega (arith, sum_nothing (λ k. due by (o k)))
+  due_within o by zero meets = omega (arith, sum_none (λ k. due by (o k)))
   due_within o by (suc m) meets =
       ⊎_elim
       (λ late.
@@ -161,7 +162,7 @@ module _ (n : ℕ) (d w : ℕ → ℕ) where
       member = λ k h. absurd (omega arith);
       once = λ j k l h. absurd (omega arith);
       in_time = λ k h. absurd (omega arith);
-      whole = sum_nothing (λ _. w 0) ∙ sym (sum_none_of n s w (counts_none n s e));
+      whole = sum_none (λ _. w 0) ∙ sym (sum_none_of n s w (counts_none n s e));
     }
     place (suc m) s e =
         ⊎_elim

@@ -27,10 +27,6 @@ pub sum_next : (f : ℕ → ℕ) (n : ℕ) → sum_below (suc n) f ≡ sum_below
 unfolding sum_below
 sum_next f n = refl
 
-pub sum_nothing : (f : ℕ → ℕ) → sum_below zero f ≡ 0
-unfolding sum_below
-sum_nothing f = refl
-
 -- as many ones as places
 pub sum_ones : (n : ℕ) → sum_below n (λ _. 1) ≡ n
 unfolding sum_below

@@ -15,16 +15,11 @@ fn due_first(count: u8, deadlines: [u32; MOST_BANKS], untried: &Moves) -> Option
     requires { count ≤ most_banks }
     ensures { MatchOption result (NoneUntried count (in_set untried.now.held)) (λ b. DueFirst count (age_at deadlines) (in_set untried.now.held) b) }
 {
-    let mut first = None;
-    let mut least = u32::MAX;
-    for i in 0..count {
-        let deadline = deadlines[i as usize];
-        if untried.holds(i) && (first.is_none() || deadline < least) {
-            first = Some(i);
-            least = deadline;
-        }
-    }
-    first
+    (0..count)
+        .zip(deadlines.iter())
+        .filter(|(i, _)| untried.holds(*i))
+        .min_by_key(|(_, deadline)| **deadline)
+        .map(|(i, _)| i)
 }
 
 // The untried bank with the least deadline, the lowest number among equals; 0 where no bank is untried.

@@ -1,49 +1,28 @@
 // Deadlines, and whether some order of dwells can still meet them.
 ghost use Rattle.std.specs.Prelude.{◌≡◌, false, Decides};
 ghost use Rattle.banks.specs.Places.{age_at, spread};
-ghost use Rattle.banks.specs.Limits.{bank_at};
 ghost use Rattle.banks.specs.Table.{dwell};
 ghost use Rattle.deadlines.specs.Deadlines.{deadline, due_sum, some_overrun, Hopeless, NoneMeets, SomeMeets};
 
-use banks::{Bank, BankTable};
+use banks::BankTable;
 use sheets::MOST_BANKS;
-
-// What stands at a place of the table: a bank, or zeros behind the last bank.
-fn bank_at(table: &BankTable, i: usize) -> Bank
-    ensures { result ≡ bank_at table.now.banks i }
-{
-    match table.bank(i) {
-        Some(bank) => bank,
-        None => Bank {
-            panel: 0,
-            dwell: 0,
-            gap: 0,
-        },
-    }
-}
+use std::array;
 
 // The deadline of every bank, 0 at places without a bank.
 pub fn deadlines(table: &BankTable, ages: &[u16; MOST_BANKS]) -> [u32; MOST_BANKS]
     ensures { result ≡ spread (deadline table.now (age_at ages.now)) }
 {
-    let mut all = [0; MOST_BANKS];
-    for i in 0..MOST_BANKS {
-        let age = ages[i] as u32;
-        let bank = bank_at(table, i);
-        all[i] = (bank.gap as u32 + bank.dwell as u32).saturating_sub(age);
-    }
-    all
+    array::from_fn(|i| {
+        let bank = table.at(i);
+        (bank.gap as u32 + bank.dwell as u32).saturating_sub(ages[i] as u32)
+    })
 }
 
 // The dwell of every bank, 0 at places without a bank.
 fn dwells(table: &BankTable) -> [u16; MOST_BANKS]
     ensures { result ≡ spread (dwell table.now) }
 {
-    let mut all = [0; MOST_BANKS];
-    for i in 0..MOST_BANKS {
-        all[i] = bank_at(table, i).dwell;
-    }
-    all
+    array::from_fn(|i| table.at(i).dwell)
 }
 
 // The ticks of one dwell on each bank whose deadline is at most `by`.
@@ -65,13 +44,11 @@ pub fn due_by(table: &BankTable, deadlines: [u32; MOST_BANKS], by: u32) -> u32
 fn some_overdue(table: &BankTable, deadlines: [u32; MOST_BANKS]) -> bool
     ensures { Decides result (Hopeless table.now (age_at deadlines)) }
 {
-    for i in 0..table.count() as usize {
-        let deadline = deadlines[i];
-        if due_by(table, deadlines, deadline) > deadline {
-            return true;
-        }
-    }
-    false
+    let banks = table.count() as usize;
+    deadlines
+        .into_iter()
+        .take(banks)
+        .any(move |due| due_by(table, deadlines, due) > due)
 }
 
 // Whether the state with these ages is hopeless: no order of all banks meets the deadlines. Otherwise some order does.

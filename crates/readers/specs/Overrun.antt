@@ -11,7 +11,8 @@ use Rattle.banks.specs.Places.{sum_below}
 use Rattle.banks.specs.Table.{dwell, gap}
 use Rattle.deadlines.specs.Deadlines.{deadline, due_sum, some_overrun}
 use Rattle.deadlines.proofs.Schedules.{overrun_decides}
-use Rattle.deadlines.proofs.Subsets.{sum_next, sum_nothing, sum_visited}
+use Rattle.banks.proofs.Below.{sum_none}
+use Rattle.deadlines.proofs.Subsets.{sum_next, sum_visited}
 use Rattle.readers.specs.Ages.{Aged, AgesProper, InTime}
 use Rattle.readers.specs.Clocks.{Soonest, soonest}
 
@@ -46,7 +47,7 @@ module _ {S : Type 0} (t : BankTable) (m : Meaning S) (ages settles : S → ℕ 
         (cases_lt p (suc q))
 
     dwells_gone : (n : ℕ) → sum_below n (λ k. dwell t (o k)) ≤ gone n
-    dwells_gone zero = omega (arith, sum_nothing (λ k. dwell t (o k)))
+    dwells_gone zero = omega (arith, sum_none (λ k. dwell t (o k)))
     dwells_gone (suc n) = omega (arith, dwells_gone n, sum_next (λ k. dwell t (o k)) n)
 
     -- how many dwells have ended by a tick

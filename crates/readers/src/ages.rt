@@ -5,6 +5,10 @@ ghost use Rattle.readers.specs.Ages.{age_sum, aged, ages_cover, ages_proper, in_
 
 use banks::BankTable;
 use sheets::MOST_BANKS;
+use std::array;
+
+// The functions below take a table and ages, each by its own reference: a reader holds the one and its state the other.
+// A struct of the two would be made anew for each call, and every clause would speak of the two through it.
 
 // The age of each bank. Places without a bank have age 0.
 pub type Ages = [u16; MOST_BANKS];
@@ -13,13 +17,9 @@ pub type Ages = [u16; MOST_BANKS];
 pub(crate) fn ages_proper(table: &BankTable, ages: &Ages) -> bool
     ensures { result ≡ ages_proper table.now (age_at ages.now) }
 {
-    for i in 0..MOST_BANKS {
-        let age = ages[i];
-        if age > table.at(i).gap {
-            return false;
-        }
-    }
-    true
+    ages.iter()
+        .enumerate()
+        .all(|(i, age)| *age <= table.at(i).gap)
 }
 
 // Whether none of the banks' ages in `a` is larger than in `b`.
@@ -27,37 +27,24 @@ pub(crate) fn ages_cover(table: &BankTable, a: &Ages, b: &Ages) -> bool
     ensures { result ≡ ages_cover table.now (age_at a.now) (age_at b.now) }
 {
     let compared = table.count() as usize;
-    for i in 0..compared {
-        let fresh = a[i];
-        let stale = b[i];
-        if fresh > stale {
-            return false;
-        }
-    }
-    true
+    a.iter()
+        .zip(b.iter())
+        .take(compared)
+        .all(|(fresh, stale)| fresh <= stale)
 }
 
 // Whether a dwell on bank j after this settling leaves no bank waiting longer than its gap.
 pub(crate) fn in_time(table: &BankTable, ages: &Ages, j: u8, settling: u16) -> bool
-    requires { j < table.now.count }
     ensures { result ≡ in_time table.now (age_at ages.now) j settling }
 {
     let own = j as usize;
-    let settling = settling as u32;
+    let banks = table.count() as usize;
     let dwell = table.at(own).dwell as u32;
-    for i in 0..table.count() as usize {
-        let age = ages[i] as u32;
-        let gap = table.at(i).gap as u32;
-        let wait = if i == own {
-            age + settling
-        } else {
-            age + settling + dwell
-        };
-        if wait > gap {
-            return false;
-        }
-    }
-    true
+    ages.iter().enumerate().take(banks).all(|(i, age)| {
+        let begins = *age as u32 + settling as u32;
+        let wait = if i == own { begins } else { begins + dwell };
+        wait <= table.at(i).gap as u32
+    })
 }
 
 // The ages after that dwell, which is in time.
@@ -67,15 +54,13 @@ pub(crate) fn ages_after(table: &BankTable, ages: &Ages, j: u8, settling: u16) -
     ensures { result ≡ spread (aged table.now (age_at ages.now) j settling) }
 {
     let own = j as usize;
+    let banks = table.count() as usize;
     let dwell = table.at(own).dwell;
-    let mut after = [0; MOST_BANKS];
-    for i in 0..table.count() as usize {
-        let age = ages[i];
-        if i != own {
-            after[i] = age + settling + dwell;
-        }
-    }
-    after
+    array::from_fn(|i| if i >= banks || i == own {
+        0
+    } else {
+        ages[i] + settling + dwell
+    })
 }
 
 // The sum of the banks' ages.
@@ -83,9 +68,6 @@ pub(crate) fn age_sum(table: &BankTable, ages: &Ages) -> u32
     ensures sum { result ≡ age_sum table.now (age_at ages.now) }
     ensures small { result ≤ 65535 * table.now.count }
 {
-    let mut sum = 0;
-    for i in 0..table.count() as usize {
-        sum += ages[i] as u32;
-    }
-    sum
+    let banks = table.count() as usize;
+    ages.iter().take(banks).map(|age| *age as u32).sum()
 }

@@ -1,5 +1,5 @@
 // The panelled reader: one reader behind an aerial switch that settles when the panel changes.
-ghost use Rattle.std.specs.Prelude.{◌≡◌, ℕ, ◌<◌, true, Decides, nat_eq};
+ghost use Rattle.std.specs.Prelude.{◌≡◌, ℕ, ◌<◌, true, Decides};
 ghost use Rattle.rig.specs.Meaning.{after, lawful};
 ghost use Rattle.rig.specs.Guides.{choice};
 ghost use Rattle.rig.specs.Orders.{Endless, Order};
@@ -7,12 +7,6 @@ ghost use Rattle.rig.specs.Sets.{in_set};
 ghost use Rattle.deadlines.specs.Deadlines.{DueFirst, NoneMeets, NoneUntried, deadline, some_overrun};
 ghost use Rattle.readers.specs.Panelled.{age, guided_panelled, panel_covers, panel_proper, panelled, panelled_guide, proper_state, settling, state_covers};
 ghost use Rattle.readers.specs.Rules.{Covers, Proper, TellsAfter, TellsLawful};
-ghost use lib.Pointwise.{pointwise};
-ghost use Rattle.std.specs.Option.{option_eq};
-ghost use Rattle.std.specs.Ordering.{on, eq_of_both};
-ghost use Rattle.std.specs.Cmp.Rules.{comparing};
-ghost use Rattle.std.proofs.Common.{rules};
-ghost use Rattle.std.specs.Cmp as Keys;
 ghost use Rattle.readers.specs.RigLaws.{guide_laws, laws};
 
 use crate::ages::{Ages, age_sum, ages_after, ages_cover, ages_proper, in_time};
@@ -24,25 +18,11 @@ use sheets::{MOST_BANKS, MOST_PANEL};
 // The greatest sum of ages of a proper state, and one more for its last panel.
 pub(crate) const MOST_STALENESS: u32 = MOST_BANKS as u32 * MOST_GAP as u32 + 1;
 
-// The age of every bank, and the panel of the last dwell, if there was one.
-#[derive(Clone, Copy, Eq, Debug)]
+// The age of every bank, and the panel of the last dwell, if there was one. States are equal exactly when they are identical.
+#[derive(Clone, Copy, PartialEq, Eq, Debug)]
 pub struct ReaderState {
     ages: Ages,
     last: Option<u8>,
-}
-
-// States are equal exactly when they are identical.
-impl PartialEq for ReaderState {
-    ghost eq = { eq_of_both (on (λ s. s.last) (option_eq nat_eq)) (on (λ s. s.ages) (pointwise nat_eq)) };
-
-    ghost laws = { Keys.partial_equiv_from_equiv (Prim.search (comparing, rules)) };
-
-    fn eq(&self, other: &ReaderState) -> bool
-        ensures value { result ≡ eq_of_both (on (λ s. s.last) (option_eq nat_eq)) (on (λ s. s.ages) (pointwise nat_eq)) self.now other.now }
-        ensures identical { Decides result (self.now ≡ other.now) }
-    {
-        self.last == other.last && self.ages == other.ages
-    }
 }
 
 // The panelled reader of a bank table.
@@ -132,7 +112,7 @@ impl Rig for PanelledReader {
     }
 
     fn staleness(&self, s: &ReaderState) -> u32 {
-        age_sum(&self.table, &s.ages) + if s.last.is_some() { 1 } else { 0 }
+        age_sum(&self.table, &s.ages) + u32::from(s.last.is_some())
     }
 
     fn ceiling(&self) -> u32 {
@@ -168,34 +148,24 @@ impl GuidedRig for PanelledReader {
 fn panel_proper(last: Option<u8>) -> bool
     ensures { result ≡ panel_proper last }
 {
-    match last {
-        None => true,
-        Some(p) => p <= MOST_PANEL,
-    }
+    last.is_none_or(|p| p <= MOST_PANEL)
 }
 
 // Whether the first of two last panels is none or the same as the second.
-fn panel_covers(a: Option<u8>, b: Option<u8>) -> bool
-    ensures { result ≡ panel_covers a b }
+fn panel_covers(fresh: Option<u8>, stale: Option<u8>) -> bool
+    ensures { result ≡ panel_covers fresh stale }
 {
-    match (a, b) {
-        (None, _) => true,
-        (Some(_), None) => false,
-        (Some(p), Some(q)) => p == q,
-    }
+    fresh.is_none() || fresh == stale
 }
 
 // The settling before a dwell on bank j: the settle time where the panel changes, and 0 on the same panel or at first.
 fn settling_before(table: &BankTable, last: Option<u8>, j: u8) -> u16
-    requires { j < table.now.count }
     ensures { result ≡ settling table.now last j }
 {
-    match last {
-        None => 0,
-        Some(p) => if p == table.at(j as usize).panel {
-            0
-        } else {
-            table.settle()
-        },
+    let panel = table.at(j as usize).panel;
+    if last.is_none_or(|p| p == panel) {
+        0
+    } else {
+        table.settle()
     }
 }

@@ -1,5 +1,5 @@
 // The plain reader: one reader whose aerial needs no settling.
-ghost use Rattle.std.specs.Prelude.{◌≡◌, ℕ, ◌<◌, true, Decides, nat_eq};
+ghost use Rattle.std.specs.Prelude.{◌≡◌, ℕ, ◌<◌, true, Decides};
 ghost use Rattle.rig.specs.Meaning.{after, lawful};
 ghost use Rattle.rig.specs.Guides.{choice};
 ghost use Rattle.rig.specs.Orders.{Endless, Order};
@@ -7,11 +7,6 @@ ghost use Rattle.rig.specs.Sets.{in_set};
 ghost use Rattle.deadlines.specs.Deadlines.{DueFirst, NoneMeets, NoneUntried, deadline, some_overrun};
 ghost use Rattle.readers.specs.Ages.{AgesCover, AgesProper, ages_cover, ages_proper};
 ghost use Rattle.readers.specs.Plain.{PlainAfter, PlainLawful, guided_plain, plain, plain_age, plain_guide};
-ghost use lib.Pointwise.{pointwise};
-ghost use Rattle.std.specs.Ordering.{on};
-ghost use Rattle.std.specs.Cmp.Rules.{comparing};
-ghost use Rattle.std.proofs.Common.{rules};
-ghost use Rattle.std.specs.Cmp as Keys;
 ghost use Rattle.readers.specs.PlainLaws.{plain_guide_laws, plain_laws};
 
 use crate::ages::{Ages, age_sum, ages_after, ages_cover, ages_proper, in_time};
@@ -21,27 +16,15 @@ use deadlines::{choose, is_hopeless};
 use rig::{GuidedRig, Moves, Rig};
 use sheets::MOST_BANKS;
 
-// The age of every bank.
-#[derive(Clone, Copy, Eq, Debug)]
+// The age of every bank. States are equal exactly when they are identical.
+#[derive(Clone, Copy, PartialEq, Eq, Debug)]
 pub struct PlainState {
     ages: Ages,
 }
 
-// States are equal exactly when they are identical.
-impl PartialEq for PlainState {
-    ghost eq = { on (λ s. s.ages) (pointwise nat_eq) };
-
-    ghost laws = { Keys.partial_equiv_from_equiv (Prim.search (comparing, rules)) };
-
-    fn eq(&self, other: &PlainState) -> bool
-        ensures value { result ≡ on (λ s. s.ages) (pointwise nat_eq) self.now other.now }
-        ensures identical { Decides result (self.now ≡ other.now) }
-    {
-        self.ages == other.ages
-    }
-}
-
 // The plain reader of a bank table.
+// It is no case of one generic reader with `PanelledReader`: its rules, `PlainLawful` and `PlainAfter`, speak of no settling, and
+// `TellsLawful` and `TellsAfter` do, so a trait would need a member and a law for each clause below, to share these one-line bodies.
 #[derive(Clone, Copy)]
 pub struct PlainReader {
     table: BankTable,

@@ -2,7 +2,8 @@ use Rattle.std.proofs.Common.{◌≡◌, ℕ, cond, leb, get_or, sym, ap, ◌∙
 use Rattle.banks.specs.Places.{age_at, sum_below}
 use Rattle.banks.specs.Table.{dwell}
 use Rattle.banks.proofs.Below.{sum_none}
-use Rattle.deadlines.proofs.Lists.{dwell_at, dwell_small, due_adds, due_skips, due_sum_all}
+use Rattle.banks.proofs.Spread.{spread_at}
+use Rattle.deadlines.proofs.Lists.{dwell_small, due_adds, due_skips, due_sum_all}
 use Rattle.deadlines.proofs.deadline.due_by.Goals as goal
 use Rattle.deadlines.proofs.deadline.due_by.Goals.{then-deadline-by, else-deadline-by}
 
@@ -14,7 +15,7 @@ loop-i-preserved c =
     let t = c.args.table.now in
     let d = age_at c.args.deadlines in
     let i = c.loop-i.i in
-    let here : get_or c.dwells-dwells.result i 0 ≡ dwell t i = ap (λ xs. age_at xs i) c.dwells-dwells.ensures ∙ dwell_at t i c.loop-i-test.true in
+    let here : get_or c.dwells-dwells.result i 0 ≡ dwell t i = ap (λ xs. age_at xs i) c.dwells-dwells.ensures ∙ spread_at (dwell t) i c.loop-i-test.true in
     elim c.if-deadline-by.branch [
       | then-deadline-by w ↦ (
         due_adds t d c.args.by i c.loop-i.sum c.if-deadline-by.sum c.loop-i.invariant.0 (omega (arith, w.if-deadline-by.true)) (omega (arith, w.sum-is, here)),

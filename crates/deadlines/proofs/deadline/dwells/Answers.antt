@@ -1,7 +1,7 @@
-use Rattle.std.proofs.Common.{arith}
+use Rattle.std.proofs.Common.{rules}
 use Rattle.banks.specs.Table.{dwell}
-use Rattle.banks.proofs.Spread.{spread_filled}
+use Rattle.deadlines.proofs.Lists.{filled}
 use Rattle.deadlines.proofs.deadline.dwells.Goals as goal
 
 pub returns : goal.returns
-returns c = spread_filled (dwell c.args.table.now) c.loop-i.all c.loop-i.invariant.0 (λ k h. c.loop-i.invariant.1 k (omega arith))
+returns c = filled _ _ (dwell c.args.table.now) (λ i y q k. search rules) _ c.from_fn.ensures.items

@@ -1,17 +1,21 @@
-use Rattle.std.proofs.Common.{◌+◌, cond, eqb, sym, arith, rules}
-use Rattle.banks.specs.Places.{age_at}
+use Rattle.std.proofs.Common.{ℕ, ◌+◌, cond, eqb, leb, ◌∙◌, arith}
+use Rattle.std.proofs.lemmas.Bool.Decides.{nat_tests}
+use Rattle.std.proofs.lemmas.Iterator.{YieldsList-from_slice, YieldsList-from_take}
+use Rattle.std.proofs.lemmas.Iterator.Consumers.{YieldsList-at, YieldsList-from_enumerate}
+use Rattle.std.proofs.lemmas.Iterator.Search.{all_from_yields_List}
 use Rattle.banks.specs.Table.{dwell, gap}
-use Rattle.banks.proofs.Below.{every_decides, every_fails}
+use Rattle.readers.proofs.Chains.{list_all_enumerated}
 use Rattle.readers.proofs.ages.in_time.Goals as goal
-
-pub returns-then-wait-gap : goal.returns-then-wait-gap
-returns-then-wait-gap c =
-    sym
-    (every_fails (λ k. age_at c.args.ages.now k + (c.args.settling + cond (eqb k c.args.j) 0 (dwell c.args.table.now c.args.j)))
-    (gap c.args.table.now) c.args.table.now.count c.loop-i.i (omega arith) (search rules))
 
 pub returns : goal.returns
 returns c =
-    sym
-    ((every_decides (λ k. age_at c.args.ages.now k + (c.args.settling + cond (eqb k c.args.j) 0 (dwell c.args.table.now c.args.j)))
-    (gap c.args.table.now) c.args.table.now.count).1 (λ k h. c.loop-i.invariant k (omega arith)))
+    let t = c.args.table.now in
+    let xs = c.args.ages.now in
+    let test = λ (q : ℕ × ℕ). leb (q.1 + (c.args.settling + cond (eqb q.0 c.args.j) 0 (dwell t c.args.j))) (gap t q.0) in
+    all_from_yields_List test _ _ _ c.all.ensures.ran
+    (YieldsList-from_take t.count
+    (YieldsList-at c.take.ensures.source
+    (YieldsList-from_enumerate (YieldsList-at c.enumerate.ensures.source (YieldsList-from_slice xs c.iter.ensures.rest)) c.enumerate.ensures.count))
+    (c.take.ensures.count ∙ c.count-banks.ensures))
+    (λ x b q k. grind (arith, nat_tests))
+    ∙ list_all_enumerated test xs t.count (omega arith)

@@ -5,12 +5,8 @@ use Rattle.readers.specs.Panelled.{age, guided_panelled}
 use Rattle.readers.specs.DueChoice.{choice_due}
 use Rattle.readers.proofs.panelled.PanelledReaderGuidedRig.choose.Goals as goal
 
-pub returns : goal.returns
-returns c =
+pub returns-clause-value : goal.returns-clause-value
+returns-clause-value c =
     let t = c.args.self.now.table in
     let s = c.args.s.now in
-    record {
-      value = c.choose.ensures.value ∙ sym (choice_due (guided_panelled t) s (deadline t (age s)) (in_set c.args.untried.now.held) refl);
-      some = c.choose.ensures.some;
-      none = c.choose.ensures.none;
-    }
+    c.choose.ensures.value ∙ sym (choice_due (guided_panelled t) s (deadline t (age s)) (in_set c.args.untried.now.held) refl)

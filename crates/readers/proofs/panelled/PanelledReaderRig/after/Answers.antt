@@ -2,8 +2,5 @@ use Rattle.std.proofs.Common.{rules}
 use Rattle.readers.specs.Meanings.{tells_after}
 use Rattle.readers.proofs.panelled.PanelledReaderRig.after.Goals as goal
 
-pub returns : goal.returns
-returns c = record {
-  value = search rules;
-  rule = tells_after c.args.self.now.table c.args.s.now c.args.j _ (search rules);
-}
+pub returns-clause-rule : goal.returns-clause-rule
+returns-clause-rule c = tells_after c.args.self.now.table c.args.s.now c.args.j _ (search rules)

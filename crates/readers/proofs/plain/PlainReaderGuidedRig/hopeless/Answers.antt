@@ -4,13 +4,8 @@ use Rattle.readers.specs.AgeLaws.{ages_proper_decides}
 use Rattle.readers.specs.PlainLaws.{plain_guide_laws}
 use Rattle.readers.proofs.plain.PlainReaderGuidedRig.hopeless.Goals as goal
 
-pub returns : goal.returns
-returns c =
+pub returns-clause-ends : goal.returns-clause-ends
+returns-clause-ends c =
     let t = c.args.self.now.table in
     let s = c.args.s.now in
-    let same = c.is_hopeless.ensures.value in
-    record {
-      value = same;
-      never = c.is_hopeless.ensures.never;
-      ends = λ p e. (plain_guide_laws t).hopeless_ends s ((ages_proper_decides t (plain_age s)).1 p) (sym same ∙ e);
-    }
+    λ p e. (plain_guide_laws t).hopeless_ends s ((ages_proper_decides t (plain_age s)).1 p) (sym c.is_hopeless.ensures.value ∙ e)
