@@ -47,10 +47,7 @@ fn closing_lap(round: &RoundRecord) -> u32
     ensures { FirstClosing (panelled round.now.table) (list_of round.now) result }
 {
     let reader = PanelledReader::new(round.table());
-    match check_list(&reader, round.list()) {
-        Ok(lap) => lap,
-        Err(_) => unreachable(),
-    }
+    check_list(&reader, round.list()).unwrap()
 }
 
 // The slack of a bank of the round.
