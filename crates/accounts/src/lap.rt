@@ -71,11 +71,7 @@ impl<'a> TableLap<'a> {
         ensures { LapTicks self.now.table.now self.now.list.now result }
     {
         let dwells = self.list.len();
-        let mut ticks = 0u32;
-        for n in dwells..2 * dwells {
-            ticks += self.ticks_of(n);
-        }
-        ticks
+        (dwells..2 * dwells).map(|n| self.ticks_of(n)).sum()
     }
 
     // The first place of the bank in the list.
