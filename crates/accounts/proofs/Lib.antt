@@ -1,4 +1,5 @@
 pub mod Repeats
 pub mod Watch
 pub mod Served
+pub mod Least
 pub mod Kept

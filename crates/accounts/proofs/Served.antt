@@ -72,22 +72,3 @@ slack_one t xs b r s x y =
 -- the slack is what the gap has beyond the longest wait
 pub slack_beyond : (t : BankTable) (xs : List ℕ) (b w s : ℕ) → LongestWait t (again xs) b w → Slack t xs b s → w + s ≡ gap t b
 slack_beyond t xs b w s x y = omega (arith, longest_one t (again xs) b w y.longest x y.waits, y.left)
-
--- the bank with the least slack, as one bank after the other is looked at
-module _ (t : BankTable) (xs : List ℕ) where
-  module _ (n b s v : ℕ) (x : LeastSlack t xs n b s) (here : Slack t xs n v) where
-    pub least_here : v < s → LeastSlack t xs (n + 1) n v
-    least_here l = record {
-      bank = omega arith;
-      slack = here;
-      least = below_more (λ i. (k : ℕ) → Slack t xs i k → v ≤ k) n (λ i m k y. omega (arith, x.least i m k y)) (λ k y. omega (arith, slack_one t xs n v k here y));
-      lowest = below_more (λ i. Slack t xs i v → n ≤ i) n (λ i m y. omega (arith, x.least i m v y)) (λ y. omega arith);
-    }
-
-    pub least_before : s ≤ v → LeastSlack t xs (n + 1) b s
-    least_before l = record {
-      bank = omega (arith, x.bank);
-      slack = x.slack;
-      least = below_more (λ i. (k : ℕ) → Slack t xs i k → s ≤ k) n x.least (λ k y. omega (arith, slack_one t xs n v k here y));
-      lowest = below_more (λ i. Slack t xs i s → b ≤ i) n x.lowest (λ y. omega (arith, x.bank));
-    }

@@ -62,18 +62,13 @@ fn slack_in(round: &RoundRecord, bank: u8) -> u32
 pub fn least_slack(round: &RoundRecord) -> BankSlack
     ensures { LeastSlack round.now.table (list_of round.now) round.now.table.count result.bank result.slack }
 {
-    let banks = round.table().count();
-    let mut least = BankSlack {
-        bank: 0,
-        slack: slack_in(round, 0),
-    };
-    for bank in 1..banks {
-        let slack = slack_in(round, bank);
-        if slack < least.slack {
-            least = BankSlack { bank, slack };
-        }
-    }
-    least
+    (0..round.table().count())
+        .map(|bank| BankSlack {
+            bank,
+            slack: slack_in(round, bank),
+        })
+        .min_by_key(|least| least.slack)
+        .unwrap()
 }
 
 // The account of a round.
