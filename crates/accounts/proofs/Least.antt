@@ -1,7 +1,7 @@
 -- The bank with the least slack, as `min_by_key` picks it out of the banks in their order.
-use Rattle.std.proofs.Common.{◌≡◌, ℕ, ◌+◌, ◌-◌, ◌<◌, ◌≤◌, List, [], ◌∷◌, Some, None, Option, sym, refl, ap, ap₂, ◌∙◌, subst, arith, below_more, below_none}
+use Rattle.std.proofs.Common.{◌≡◌, ℕ, ◌+◌, ◌<◌, ◌≤◌, List, [], ◌∷◌, Some, sym, refl, ap, ap₂, ◌∙◌, subst, arith, below_more}
 use Rattle.std.specs.Fn.{CalledAt}
-use Rattle.std.specs.Iterator.{KeyTurn, Yields, YieldsThen, PicksMinByKey}
+use Rattle.std.specs.Iterator.{KeyTurn, Yields, PicksMinByKey}
 use Rattle.std.specs.Iterator.Adapters.{map_steps}
 use Rattle.std.specs.List.{FoldsTo}
 use Rattle.std.specs.Ordering.{MatchOrdering, min_by_ordering, nat_cmp}

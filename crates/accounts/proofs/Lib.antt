@@ -2,4 +2,3 @@ pub mod Repeats
 pub mod Watch
 pub mod Served
 pub mod Least
-pub mod Kept

@@ -129,13 +129,8 @@ impl fmt::Display for BankAccount {
     fn fmt<W: fmt::Write>(&self, f: &mut fmt::Formatter<W>) -> fmt::Result {
         write!(
             f,
-            "panel {}, dwell {}, gap {}, ",
-            self.panel, self.dwell, self.gap
-        )?;
-        write!(
-            f,
-            "dwells {}, longest wait {}, slack {}",
-            self.dwells, self.longest, self.slack
+            "panel {}, dwell {}, gap {}, dwells {}, longest wait {}, slack {}",
+            self.panel, self.dwell, self.gap, self.dwells, self.longest, self.slack
         )
     }
 }
