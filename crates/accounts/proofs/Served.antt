@@ -1,5 +1,5 @@
 -- A round in its list: every bank stands in it, and what is left of a gap is the slack.
-use Rattle.std.proofs.Common.{◌≡◌, ℕ, ◌-◌, ◌%◌, ◌<◌, ◌≤◌, true, List, length, get_or, is_some, Some, None, Option, refl, ap, subst, mod-lt, mod-eq_of_lt, arith, MatchOption}
+use Rattle.std.proofs.Common.{◌≡◌, ℕ, ◌+◌, ◌-◌, ◌%◌, ◌<◌, ◌≤◌, true, List, length, get_or, is_some, Some, None, Option, refl, ap, subst, mod-lt, mod-eq_of_lt, arith, MatchOption}
 use Rattle.std.specs.Option.{SomeIff}
 use Rattle.rig.specs.Orders.{Order, again, LawfulForEver}
 use Rattle.banks.specs.declared.table.BankTable.{BankTable}
@@ -51,6 +51,11 @@ pub lap_waits : (t : BankTable) (xs : List ℕ) (b : ℕ) (r : Option ℕ) → L
 lap_waits t xs b None lap none = λ l. none
 lap_waits t xs b (Some w) lap some = (lap, some)
 
+-- what is left of the gap is the slack, if there is anything to take the wait from
+pub slack_left : (t : BankTable) (xs : List ℕ) (b w : ℕ) (r : Option ℕ) → Lap t xs → LongestWait t (again xs) b w → SomeIff r (w ≤ gap t b) (gap t b - w) → MatchOption r ((s : ℕ) → Slack t xs b s → ⊥) (λ s. Slack t xs b s)
+slack_left t xs b w None lap x none = λ s y. none (omega (arith, longest_one t (again xs) b w y.longest x y.waits, y.left))
+slack_left t xs b w (Some s) lap x some = record { lap = lap; longest = w; waits = x; left = omega (arith, some.0, some.1) }
+
 -- there is a slack where the wait is within the gap
 pub slack_some : (v g : ℕ) (r : Option ℕ) → v ≤ g → SomeIff r (v ≤ g) (g - v) → is_some r ≡ true
 slack_some v g None l none = absurd (none l)
@@ -60,3 +65,7 @@ slack_some v g (Some s) l some = refl
 pub slack_one : (t : BankTable) (xs : List ℕ) (b r s : ℕ) → Slack t xs b r → Slack t xs b s → r ≡ s
 slack_one t xs b r s x y =
     omega (arith, longest_one t (again xs) b x.longest y.longest x.waits y.waits, x.left, y.left)
+
+-- a wait that is the longest, and the slack, make up the gap
+pub slack_beyond : (t : BankTable) (xs : List ℕ) (b w s : ℕ) → LongestWait t (again xs) b w → Slack t xs b s → w + s ≡ gap t b
+slack_beyond t xs b w s x y = omega (arith, longest_one t (again xs) b w y.longest x y.waits, y.left)

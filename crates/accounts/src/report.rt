@@ -88,6 +88,7 @@ pub fn round_account(round: &RoundRecord) -> RoundAccount
 }
 
 // The account of a bank; none where the number is no bank of the round's table.
+#[tactic(auto, using(crate::proofs::Served::slack_beyond))]
 pub fn bank_account(round: &RoundRecord, bank: u8) -> Option<BankAccount>
     ensures { MatchOption result (round.now.table.count ≤ bank) (λ a. BankTold round.now bank a) }
 {
