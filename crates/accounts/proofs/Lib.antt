@@ -1,4 +1,4 @@
 pub mod Repeats
 pub mod Watch
 pub mod Served
-pub mod Kept
+pub mod Least

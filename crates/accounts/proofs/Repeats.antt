@@ -1,5 +1,7 @@
 -- Orders that repeat after so many dwells: the clock of a lap is that of the lap before, and so many ticks more.
-use Rattle.std.proofs.Common.{◌≡◌, ℕ, zero, suc, ◌+◌, ◌*◌, ◌<◌, ◌≤◌, cond, eqb, List, length, get_or, sym, ap, ◌∙◌, ap₂, add-mul, add-one, arith}
+use Rattle.std.proofs.Common.{◌≡◌, ℕ, zero, suc, ◌+◌, ◌*◌, ◌<◌, ◌≤◌, cond, eqb, List, length, map, sum, get_or, sym, refl, ap, ◌∙◌, ap₂, add-mul, add-zero, add-one, arith}
+use Rattle.std.specs.List.{range_with_len}
+use Rattle.std.proofs.lemmas.List.FromFn.{sum_by-map-range_with_len_more}
 use native.Mathlib.Nat.{add-mod_right}
 use Rattle.rig.specs.Orders.{Order, again}
 use Rattle.banks.specs.declared.table.BankTable.{BankTable}
@@ -46,14 +48,24 @@ module _ (t : BankTable) (o : Order) (len : ℕ) (same : (n : ℕ) → o (n + le
     between = λ k l m e. h.between (k + len) (omega arith) (omega arith) (same k ∙ e);
   }
 
+-- what dwell n adds to the clock
+abbrev pub adds : BankTable → Order → ℕ → ℕ
+adds t o n = settling_before t o n + dwell t (o n)
+
+-- the clock after n more dwells
+clock_sum : (t : BankTable) (o : Order) (from n : ℕ) → clock t o from + sum (map (adds t o) (range_with_len from n)) ≡ clock t o (from + n)
+clock_sum t o from zero = omega (arith, ap (clock t o) (add-zero from))
+clock_sum t o from (suc n) =
+    let e : from + suc n ≡ from + n + 1 = omega arith in
+    omega (arith, clock_sum t o from n, sum_by-map-range_with_len_more (λ x. x) (adds t o) from n (from + n) refl, clock_next t o (from + n), ap (clock t o) e, ap (λ (k : ℕ). sum (map (adds t o) (range_with_len from k))) (add-one n))
+
 -- from the ticks of the second lap to those of every later one
-pub lap_ticks : (t : BankTable) (xs : List ℕ) (n : ℕ) → 0 < length xs → clock t (again xs) (length xs) + n ≡ clock t (again xs) (2 * length xs) → LapTicks t xs n
+pub lap_ticks : (t : BankTable) (xs : List ℕ) (n : ℕ) → 0 < length xs → n ≡ sum (map (adds t (again xs)) (range_with_len (length xs) (length xs))) → LapTicks t xs n
 lap_ticks t xs n pos h k =
     let len = length xs in
     let o = again xs in
     let e : (k + 2) * len ≡ (k + 1) * len + len = add-mul k 2 len ∙ omega (arith, add-mul k 1 len) in
-    let two : 2 * len ≡ len + len = omega arith in
     let far : 0 < (k + 1) * len = omega (arith, add-mul k 1 len) in
     let here = clock_lap_at t o len (again_lap xs) ((k + 1) * len) far in
     let there = clock_lap_at t o len (again_lap xs) len pos in
-    omega (arith, here, there, ap (clock t o) e, ap (clock t o) two)
+    omega (arith, here, there, clock_sum t o len len, ap (clock t o) e)

@@ -1,5 +1,5 @@
 -- A round in its list: every bank stands in it, and what is left of a gap is the slack.
-use Rattle.std.proofs.Common.{◌≡◌, ℕ, ◌+◌, ◌-◌, ◌%◌, ◌<◌, ◌≤◌, true, List, length, get_or, is_some, Some, None, Option, refl, ap, subst, mod-lt, mod-eq_of_lt, arith, below_more, MatchOption}
+use Rattle.std.proofs.Common.{◌≡◌, ℕ, ◌+◌, ◌-◌, ◌%◌, ◌<◌, ◌≤◌, true, List, length, get_or, is_some, Some, None, Option, refl, ap, subst, mod-lt, mod-eq_of_lt, arith, MatchOption}
 use Rattle.std.specs.Option.{SomeIff}
 use Rattle.rig.specs.Orders.{Order, again, LawfulForEver}
 use Rattle.banks.specs.declared.table.BankTable.{BankTable}
@@ -9,7 +9,7 @@ use Rattle.readers.specs.Ticks.{begins, LongestWait, InTime}
 use Rattle.banks.specs.Stored.{most_dwells}
 use Rattle.readers.specs.Clocks.{next_one}
 use Rattle.readers.proofs.Served.{on_bank, has_first, in_time}
-use Rattle.accounts.specs.Account.{Lap, LeastSlack, Occurs, Slack}
+use Rattle.accounts.specs.Account.{Lap, Occurs, Slack}
 
 module _ (t : BankTable) (xs : List ℕ) (good : LawfulForEver (panelled t) xs) where
   -- a round is a lap, unless it is too long
@@ -45,15 +45,18 @@ longest_in_time t o b w x y =
     let n = y.next x.from x.next.from in
     omega (arith, x.waits, n.2, ap (begins t o) (next_one o b x.from n.0 x.to n.1 x.next))
 
--- slack needs a wait
-pub slack_occurs : (t : BankTable) (xs : List ℕ) (b s : ℕ) → Slack t xs b s → Occurs xs b
-slack_occurs t xs b s x = occurs xs b x.waits.from x.lap.only.some_move x.waits.next.from
+-- of a lap, what is told of its waits is told of it as a list
+pub lap_waits : (t : BankTable) (xs : List ℕ) (b : ℕ) (r : Option ℕ) → Lap t xs → MatchOption r (Occurs xs b → ⊥) (λ w. LongestWait t (again xs) b w)
+    → MatchOption r (Lap t xs → Occurs xs b → ⊥) (λ w. Lap t xs × LongestWait t (again xs) b w)
+lap_waits t xs b None lap none = λ l. none
+lap_waits t xs b (Some w) lap some = (lap, some)
 
 -- what is left of the gap is the slack, if there is anything to take the wait from
 pub slack_left : (t : BankTable) (xs : List ℕ) (b w : ℕ) (r : Option ℕ) → Lap t xs → LongestWait t (again xs) b w → SomeIff r (w ≤ gap t b) (gap t b - w) → MatchOption r ((s : ℕ) → Slack t xs b s → ⊥) (λ s. Slack t xs b s)
 slack_left t xs b w None lap x none = λ s y. none (omega (arith, longest_one t (again xs) b w y.longest x y.waits, y.left))
 slack_left t xs b w (Some s) lap x some = record { lap = lap; longest = w; waits = x; left = omega (arith, some.0, some.1) }
 
+-- there is a slack where the wait is within the gap
 pub slack_some : (v g : ℕ) (r : Option ℕ) → v ≤ g → SomeIff r (v ≤ g) (g - v) → is_some r ≡ true
 slack_some v g None l none = absurd (none l)
 slack_some v g (Some s) l some = refl
@@ -63,25 +66,6 @@ pub slack_one : (t : BankTable) (xs : List ℕ) (b r s : ℕ) → Slack t xs b r
 slack_one t xs b r s x y =
     omega (arith, longest_one t (again xs) b x.longest y.longest x.waits y.waits, x.left, y.left)
 
--- the slack is what the gap has beyond the longest wait
+-- a wait that is the longest, and the slack, make up the gap
 pub slack_beyond : (t : BankTable) (xs : List ℕ) (b w s : ℕ) → LongestWait t (again xs) b w → Slack t xs b s → w + s ≡ gap t b
 slack_beyond t xs b w s x y = omega (arith, longest_one t (again xs) b w y.longest x y.waits, y.left)
-
--- the bank with the least slack, as one bank after the other is looked at
-module _ (t : BankTable) (xs : List ℕ) where
-  module _ (n b s v : ℕ) (x : LeastSlack t xs n b s) (here : Slack t xs n v) where
-    pub least_here : v < s → LeastSlack t xs (n + 1) n v
-    least_here l = record {
-      bank = omega arith;
-      slack = here;
-      least = below_more (λ i. (k : ℕ) → Slack t xs i k → v ≤ k) n (λ i m k y. omega (arith, x.least i m k y)) (λ k y. omega (arith, slack_one t xs n v k here y));
-      lowest = below_more (λ i. Slack t xs i v → n ≤ i) n (λ i m y. omega (arith, x.least i m v y)) (λ y. omega arith);
-    }
-
-    pub least_before : s ≤ v → LeastSlack t xs (n + 1) b s
-    least_before l = record {
-      bank = omega (arith, x.bank);
-      slack = x.slack;
-      least = below_more (λ i. (k : ℕ) → Slack t xs i k → s ≤ k) n x.least (λ k y. omega (arith, slack_one t xs n v k here y));
-      lowest = below_more (λ i. Slack t xs i s → b ≤ i) n x.lowest (λ y. omega (arith, x.bank));
-    }

@@ -1,13 +1,14 @@
 -- Watching a bank over one lap of dwells, from a dwell on it: how long it has waited, and the longest wait so far.
-use Rattle.std.proofs.Common.{◌≡◌, ℕ, zero, suc, ◌+◌, ◌-◌, ◌<◌, ◌≤◌, max, ◌⊎◌, sym, refl, ap, ◌∙◌, subst, inl, inr, ⊎_elim, arith}
+use Rattle.std.proofs.Common.{◌≡◌, ℕ, zero, suc, ◌+◌, ◌-◌, ◌<◌, ◌≤◌, max, ◌⊎◌, List, length, get_or, sym, refl, ap, ◌∙◌, subst, inl, inr, ⊎_elim, mod-eq_of_lt, arith}
 use native.Mathlib.Nat.{le-max_left, le-max_right, max-eq_left, max-eq_right}
 use Rattle.std.proofs.lemmas.Bool.{cases_lt, cases_order}
-use Rattle.rig.specs.Orders.{Order}
+use Rattle.rig.specs.Orders.{Order, again}
 use Rattle.banks.specs.declared.table.BankTable.{BankTable}
 use Rattle.banks.specs.Table.{dwell}
 use Rattle.readers.specs.Ticks.{settling_before, clock, begins, ends, NextDwell, Waits, LongestWait}
 use Rattle.readers.specs.Clocks.{clock_next}
-use Rattle.accounts.proofs.Repeats.{wait_lap, next_back}
+use Rattle.accounts.specs.Account.{FirstPlace}
+use Rattle.accounts.proofs.Repeats.{again_lap, wait_lap, next_back}
 
 -- some wait of bank b is w ticks long
 pub record Waited (t : BankTable) (o : Order) (b w : ℕ) : Type 0 where
@@ -142,3 +143,17 @@ module _ (t : BankTable) (o : Order) (b first : ℕ) where
           waits = x.waits;
           no_longer = λ p q y. in_all (p + 1) p q (omega arith) y;
         }
+
+-- over a list that is repeated, from the first place of the bank
+module _ (t : BankTable) (xs : List ℕ) (b first : ℕ) (place : FirstPlace xs b first) where
+  at_place : (k : ℕ) → k < length xs → again xs k ≡ get_or xs k 0
+  at_place k l = ap (λ (i : ℕ). get_or xs i 0) (mod-eq_of_lt l)
+
+  pub list_none : Watched t (again xs) b first (first + 1) 0 0
+  list_none = watched_none t (again xs) b first (first + 1) refl (at_place first place.within ∙ place.here)
+
+  pub list_all : (n since longest : ℕ) → n ≡ first + length xs + 1 → Watched t (again xs) b first n since longest → LongestWait t (again xs) b longest
+  list_all n since longest e w =
+      watched_all t (again xs) b first (length xs) (omega (arith, place.within)) (again_lap xs) (at_place first place.within ∙ place.here)
+      (λ k l x. place.before k l (sym (at_place k (let m : k < length xs = omega (arith, place.within) in m)) ∙ x)) since longest
+      (subst (λ (i : ℕ). Watched t (again xs) b first i since longest) e w)

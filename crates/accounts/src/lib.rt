@@ -2,6 +2,7 @@
 #![tactic(auto)]
 
 mod account;
+mod lap;
 mod needs;
 mod report;
 

@@ -16,17 +16,16 @@ impl fmt::Display for SheetAccount<'_> {
         writeln!(f, "feeders {}", sheet.feeders().len())?;
         for bank in 0..sheet.count() {
             if let Some(needs) = bank_needs(sheet, bank) {
-                write!(
+                writeln!(
                     f,
-                    "bank {bank}: feeders {}, panel {}, ",
-                    needs.feeders, needs.panel
+                    "bank {bank}: feeders {}, panel {}, dwell {} set by feeder {}, gap {} set by feeder {}",
+                    needs.feeders,
+                    needs.panel,
+                    needs.dwell,
+                    needs.dwell_feeder,
+                    needs.gap,
+                    needs.gap_feeder
                 )?;
-                write!(
-                    f,
-                    "dwell {} set by feeder {}, ",
-                    needs.dwell, needs.dwell_feeder
-                )?;
-                writeln!(f, "gap {} set by feeder {}", needs.gap, needs.gap_feeder)?;
             }
         }
         Ok(())

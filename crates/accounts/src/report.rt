@@ -47,10 +47,7 @@ fn closing_lap(round: &RoundRecord) -> u32
     ensures { FirstClosing (panelled round.now.table) (list_of round.now) result }
 {
     let reader = PanelledReader::new(round.table());
-    match check_list(&reader, round.list()) {
-        Ok(lap) => lap,
-        Err(_) => unreachable(),
-    }
+    check_list(&reader, round.list()).unwrap()
 }
 
 // The slack of a bank of the round.
@@ -65,18 +62,13 @@ fn slack_in(round: &RoundRecord, bank: u8) -> u32
 pub fn least_slack(round: &RoundRecord) -> BankSlack
     ensures { LeastSlack round.now.table (list_of round.now) round.now.table.count result.bank result.slack }
 {
-    let banks = round.table().count();
-    let mut least = BankSlack {
-        bank: 0,
-        slack: slack_in(round, 0),
-    };
-    for bank in 1..banks {
-        let slack = slack_in(round, bank);
-        if slack < least.slack {
-            least = BankSlack { bank, slack };
-        }
-    }
-    least
+    (0..round.table().count())
+        .map(|bank| BankSlack {
+            bank,
+            slack: slack_in(round, bank),
+        })
+        .min_by_key(|least| least.slack)
+        .unwrap()
 }
 
 // The account of a round.
@@ -96,6 +88,7 @@ pub fn round_account(round: &RoundRecord) -> RoundAccount
 }
 
 // The account of a bank; none where the number is no bank of the round's table.
+#[tactic(auto, using(crate::proofs::Served::slack_beyond))]
 pub fn bank_account(round: &RoundRecord, bank: u8) -> Option<BankAccount>
     ensures { MatchOption result (round.now.table.count ≤ bank) (λ a. BankTold round.now bank a) }
 {
@@ -137,13 +130,8 @@ impl fmt::Display for BankAccount {
     fn fmt<W: fmt::Write>(&self, f: &mut fmt::Formatter<W>) -> fmt::Result {
         write!(
             f,
-            "panel {}, dwell {}, gap {}, ",
-            self.panel, self.dwell, self.gap
-        )?;
-        write!(
-            f,
-            "dwells {}, longest wait {}, slack {}",
-            self.dwells, self.longest, self.slack
+            "panel {}, dwell {}, gap {}, dwells {}, longest wait {}, slack {}",
+            self.panel, self.dwell, self.gap, self.dwells, self.longest, self.slack
         )
     }
 }

@@ -2,6 +2,7 @@
 #![tactic(auto)]
 
 mod listed;
+mod settling;
 mod stored;
 mod table;
 

@@ -1,26 +1,13 @@
 // Starting, asking and stopping a reader.
-ghost use Rattle.std.specs.Prelude.{◌≡◌, ℕ, ◌+◌, ◌*◌, ◌<◌, Some};
-ghost use Rattle.banks.specs.Table.{panel};
-ghost use Rattle.readers.specs.Panelled.{settling};
+ghost use Rattle.std.specs.Prelude.{◌≡◌, ℕ, ◌+◌, ◌*◌, ◌<◌, length};
+ghost use Rattle.rounds.specs.Record.{list_of};
 ghost use Rattle.sheets.specs.declared.sheet.Sheet.{Sheet};
 ghost use Rattle.banks.specs.FromSheet.{TableOf};
 ghost use Rattle.running.specs.Swaps.{NoSwapMissed};
 ghost use Rattle.running.specs.Told.{reply_at, told};
 
 use crate::reader::RunningReader;
-use banks::BankTable;
 use rounds::RoundRecord;
-
-// The panelled reader's settling ticks from a dwell on one bank to the next dwell.
-fn settling_between(table: &BankTable, from: u8, to: u8) -> u16
-    ensures { result ≡ settling table.now (Some (panel table.now from)) to }
-{
-    if table.at(from as usize).panel == table.at(to as usize).panel {
-        0
-    } else {
-        table.settle()
-    }
-}
 
 impl RunningReader {
     // A reader at rest, at the first position of the round.
@@ -39,16 +26,16 @@ impl RunningReader {
         let table = self.round.table();
         let list = self.round.list();
         let bank = list[self.place % list.len()];
-        let ticks = match self.place.checked_sub(1) {
-            None => 0,
-            Some(before) => settling_between(&table, list[before % list.len()], bank),
-        };
-        (bank, ticks, table.at(bank as usize).dwell)
+        let settling = self.place.checked_sub(1).map_or(0, |before| {
+            let earlier = list[before % list.len()];
+            table.settling(table.at(earlier as usize).panel, bank)
+        });
+        (bank, settling, table.at(bank as usize).dwell)
     }
 
     // The place after this one, or one lap earlier, where the same is told from there on.
     fn place_after(&self) -> usize
-        ensures within { result < 2 * self.now.round.dwells }
+        ensures within { result < 2 * length (list_of self.now.round) }
         ensures alike { (n : ℕ) → reply_at self.now.round (result + n) ≡ told self.now (n + 1) }
     {
         let dwells = self.round.list().len();

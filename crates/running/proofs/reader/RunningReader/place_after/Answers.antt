@@ -4,13 +4,9 @@ use Rattle.running.specs.Told.{reply_at}
 use Rattle.running.proofs.LapsAlike.{lap_back}
 use Rattle.running.proofs.reader.RunningReader.place_after.Goals as goal
 
-pub returns-else-after-dwells : goal.returns-else-after-dwells
-returns-else-after-dwells c =
-    let x = c.args.self.now in
-    let r = x.round in
+pub returns-else-after-dwells-clause-alike : goal.returns-else-after-dwells-clause-alike
+returns-else-after-dwells-clause-alike c =
+    let r = c.args.self.now.round in
     let size : length c.list-dwells.result.now ≡ length (list_of r) = ap length c.list-dwells.ensures.value in
-    let last : x.place + 1 ≡ 2 * length (list_of r) = omega (arith, size) in
-    record {
-      within = omega arith;
-      alike = λ n. ap (λ (d : ℕ). reply_at r (d + n)) size ∙ lap_back r x.place (omega arith) last n;
-    }
+    let last : c.args.self.now.place + 1 ≡ 2 * length (list_of r) = omega (arith, size) in
+    λ n. ap (λ (d : ℕ). reply_at r (d + n)) size ∙ lap_back r c.args.self.now.place (omega arith) last n

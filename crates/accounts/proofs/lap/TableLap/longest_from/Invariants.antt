@@ -1,9 +1,9 @@
 use Rattle.std.proofs.Common.{◌+◌, ◌*◌, ◌≤◌}
 use Rattle.rig.specs.Orders.{again}
 use Rattle.accounts.proofs.Watch.{Watched}
-use Rattle.accounts.proofs.account.longest_from.Given as goal
+use Rattle.accounts.proofs.lap.TableLap.longest_from.Given as goal
 
 abbrev pub invariant-loop-n : goal.invariant-loop-n
 invariant-loop-n l =
-    Watched l.table (again l.list) l.bank l.first l.n l.since l.longest
+    Watched l.self.table.now (again l.self.list.now) l.bank l.first l.n l.since l.longest
     × (l.since + 2000 * (l.first + 1) ≤ 2000 * l.n)

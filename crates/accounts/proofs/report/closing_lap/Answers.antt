@@ -1,8 +1,0 @@
-use Rattle.std.proofs.Common.{◌∙◌}
-use Rattle.std.proofs.lemmas.Bool.{false≢true}
-use Rattle.accounts.proofs.Kept.{list_kept}
-use Rattle.accounts.proofs.report.closing_lap.Goals as goal
-
-pub unreachable-requires : goal.unreachable-requires
-unreachable-requires c =
-    false≢true (c.in-Err.ensures.exact.1 (list_kept c.args.round.now c.new-reader.result.table c.list.result.now (c.new-reader.ensures ∙ c.table.ensures) c.list.ensures.value c.list.ensures.len))
