@@ -10,11 +10,19 @@ pub struct TooShort {
     pub needed: usize,
 }
 
+impl From<TooShort> for Refusal {
+    ghost from_gives = { λ short refusal. refusal ≡ too_short short.needed };
+
+    fn from(short: TooShort) -> Refusal {
+        Refusal::of_length(9, short.needed)
+    }
+}
+
 impl TooShort {
     // The refusal's number and values.
     pub fn told(&self) -> Refusal
         ensures { result ≡ too_short self.now.needed }
     {
-        Refusal::of_length(9, self.needed)
+        (*self).into()
     }
 }
