@@ -7,9 +7,7 @@ ghost use Rattle.listings.specs.Writing.{Put};
 ghost use Rattle.listings.specs.Texts.{field_text, line_text};
 
 use crate::listed::{Listed, put_all};
-
-// The byte that closes a line.
-const CLOSE: u8 = 10;
+use frames::LINE_END;
 
 // So many digits, and the number that they write.
 #[derive(Clone, Copy)]
@@ -43,7 +41,7 @@ fn put_close(out: &mut [u8]) -> usize
     requires { 1 ≤ length out.old }
     ensures { Put (10 ∷ []) out.old out.new result }
 {
-    out[0] = CLOSE;
+    out[0] = LINE_END;
     1
 }
 

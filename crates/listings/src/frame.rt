@@ -6,12 +6,9 @@ ghost use Rattle.listings.specs.Texts.{verdict_line, refused_line};
 use crate::fields::{Field, put_fields};
 use crate::listed::{Listed, Listing, write};
 use crate::short::TooShort;
+use frames::Kind;
 use refusals::Refusal;
 use rig::Verdict;
-
-const VERDICT: usize = 0x10;
-
-const REFUSED: usize = 0x1F;
 
 // The bytes of the line of a verdict, and of the line of a refusal.
 const VERDICT_LENGTH: usize = 13;
@@ -31,7 +28,7 @@ impl Listed for VerdictLine {
     fn put(&self, out: &mut [u8]) -> usize {
         put_fields(
             &[
-                Field(2, VERDICT),
+                Field(2, Kind::Verdict as usize),
                 Field(2, self.verdict.number() as usize),
                 Field(8, self.visits as usize),
             ],
@@ -53,7 +50,7 @@ impl Listed for Refusal {
     fn put(&self, out: &mut [u8]) -> usize {
         put_fields(
             &[
-                Field(2, REFUSED),
+                Field(2, Kind::Refused as usize),
                 Field(2, self.number as usize),
                 Field(8, self.line as usize),
                 Field(8, self.column as usize),

@@ -11,13 +11,8 @@ use crate::fields::{Field, put_fields, put_line};
 use crate::listed::{Listed, Listing, put_all, write};
 use crate::short::TooShort;
 use banks::{Bank, BankTable};
+use frames::Kind;
 use rounds::RoundRecord;
-
-const ROUND_HEAD: usize = 0x11;
-
-const ROUND_BANK: usize = 0x12;
-
-const ROUND_PART: usize = 0x13;
 
 // The most dwells of one line.
 const PART_SIZE: usize = 16;
@@ -38,7 +33,7 @@ fn put_head(table: &BankTable, dwells: usize, out: &mut [u8]) -> usize
 {
     put_fields(
         &[
-            Field(2, ROUND_HEAD),
+            Field(2, Kind::RoundHead as usize),
             Field(2, table.count() as usize),
             Field(4, table.settle() as usize),
             Field(4, dwells),
@@ -58,7 +53,7 @@ impl Listed for BankLine {
         let BankLine(i, bank) = *self;
         put_fields(
             &[
-                Field(2, ROUND_BANK),
+                Field(2, Kind::RoundBank as usize),
                 Field(2, i),
                 Field(2, bank.panel as usize),
                 Field(4, bank.dwell as usize),
@@ -78,7 +73,7 @@ impl Listed for Part<'_> {
 
     fn put(&self, out: &mut [u8]) -> usize {
         let banks = self.0;
-        let head = [Field(2, ROUND_PART), Field(2, banks.len())];
+        let head = [Field(2, Kind::RoundPart as usize), Field(2, banks.len())];
         let numbers = banks.iter().map(|bank| Field(2, *bank as usize));
         put_line(head.iter().copied().chain(numbers), out)
     }

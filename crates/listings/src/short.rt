@@ -2,7 +2,7 @@
 ghost use Rattle.std.specs.Prelude.{◌≡◌};
 ghost use Rattle.refusals.specs.Numbers.{too_short};
 
-use refusals::Refusal;
+use refusals::{Refusal, RefusalNumber};
 
 // Nothing was written; so many bytes are needed.
 #[derive(Clone, Copy, PartialEq, Eq, Debug)]
@@ -14,7 +14,7 @@ impl From<TooShort> for Refusal {
     ghost from_gives = { λ short refusal. refusal ≡ too_short short.needed };
 
     fn from(short: TooShort) -> Refusal {
-        Refusal::of_length(9, short.needed)
+        Refusal::of_length(RefusalNumber::TooShort as u8, short.needed)
     }
 }
 
