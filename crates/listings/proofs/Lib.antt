@@ -1,3 +1,4 @@
 mod Puts
 pub mod RoundLines
 mod Readings
+mod Answered

@@ -1,11 +1,16 @@
 -- Texts put one behind the other, and the digits of a number put from the last to the first.
-use Rattle.std.proofs.Common.{◌≡◌, ℕ, zero, suc, ◌+◌, ◌-◌, ◌/◌, ◌%◌, ◌^◌, ◌<◌, ◌≤◌, List, [], ◌∷◌, ◌++◌, length, get_or, take, drop, set, sym, refl, ap, ◌∙◌, subst, append_assoc, pow-suc, div-one, arith}
+use Rattle.std.proofs.Common.{◌≡◌, ℕ, zero, suc, ◌+◌, ◌-◌, ◌/◌, ◌%◌, ◌^◌, ◌<◌, ◌≤◌, List, [], ◌∷◌, ◌++◌, Option, None, map, length, get_or, take, drop, set, sym, refl, ap, ◌∙◌, subst, append_assoc, pow-suc, div-one, arith}
 use native.Mathlib.Nat.{div-div-eq-div-mul, sub_self, sub-zero}
 use borrow.Rule.Slice.PartMut.{put_mid}
-use Rattle.std.proofs.lemmas.List.{append-nil, take-append-drop, take_all, take_more, take_at, take_rest, flat_map_more, drop_at, drop_all, drop-drop, set_at, length-append, length-drop, length-take-le}
+use Rattle.std.proofs.lemmas.List.{append-nil, take-append-drop, take_more, take_at, take_rest, flat_map_more, drop_at, drop_all, drop-drop, set_at, length-append, length-drop, length-take-le}
 use Rattle.std.specs.List.{flat_map}
+use Rattle.std.specs.Iterator.{Drains, HoldsAlong}
+use Rattle.std.proofs.lemmas.Iterator.{YieldsList}
+use Rattle.std.proofs.lemmas.Iterator.Consumers.{YieldsList-so_far, YieldsList-end}
 use Rattle.frames.specs.Digits.{digit, numeral}
 use Rattle.frames.proofs.Numerals.{length_numeral}
+use Rattle.listings.specs.declared.fields.Field.{Field}
+use Rattle.listings.specs.Texts.{field_text, fields_text, line_text}
 use Rattle.listings.specs.Writing.{Put}
 
 -- The digits from place k on are put, and `rest` is what is left of the number.
@@ -74,25 +79,40 @@ rest_room a before out at n f h =
     let l = ap length f.bytes ∙ length-append a (drop at before) in
     omega (arith, ap length (take_rest out at), length-drop at out, length-drop at before, f.told)
 
--- The texts of a list, one behind the other.
-module _ {X : Type 0} (f : X → List ℕ) where
-  front_short : (i : ℕ) (xs : List X) → length (flat_map f (take i xs)) ≤ length (flat_map f xs)
-  front_short zero xs = omega arith
-  front_short (suc i) [] = omega arith
-  front_short (suc i) (x ∷ xs) = omega (arith, length-append (f x) (flat_map f (take i xs)), length-append (f x) (flat_map f xs), front_short i xs)
+-- Items that an iterator gives, put one behind the other: f is the text of an item, which is g of what v reads of it.
+module _ {A : Type 0} (f : A → List ℕ) where
+  pub joined_next : (xs : List A) (x : A) → flat_map f (xs ++ x ∷ []) ≡ flat_map f xs ++ f x
+  joined_next xs x = sym (flat_map_more f [] xs x)
 
-  joined_next : (xs : List X) (i : ℕ) (x : X) → i < length xs → flat_map f (take (i + 1) xs) ≡ flat_map f (take i xs) ++ f (get_or xs i x)
-  joined_next xs i x h = ap (flat_map f) (take_more xs i x h) ∙ sym (flat_map_more f [] (take i xs) (get_or xs i x))
+  module _ {S B : Type 0} {steps : S → Option A → S → Type 0} (v : A → B) (g : B → List ℕ) (is : (x : A) → f x ≡ g (v x)) {s : S} {all : List B} (e : YieldsList steps v s all) where
+    read : (xs : List A) → flat_map f xs ≡ flat_map g (map v xs)
+    read [] = refl
+    read (x ∷ xs) = ap (λ (t : List ℕ). t ++ flat_map f xs) (is x) ∙ ap (λ (t : List ℕ). g (v x) ++ t) (read xs)
 
-  pub joined_room : (xs : List X) (i : ℕ) (x : X) (before out : List ℕ) (at : ℕ) → length (flat_map f xs) ≤ length before → i < length xs → Put (flat_map f (take i xs)) before out at → length (f (get_or xs i x)) ≤ length (take (length out - at) (drop at out))
-  joined_room xs i x before out at room h p =
-      rest_room (flat_map f (take i xs)) before out at (length (f (get_or xs i x))) p
-      (omega (arith, p.told, ap length (joined_next xs i x h), length-append (flat_map f (take i xs)) (f (get_or xs i x)), front_short (i + 1) xs))
+    front_short : (i : ℕ) (ys : List B) → length (flat_map g (take i ys)) ≤ length (flat_map g ys)
+    front_short zero ys = omega arith
+    front_short (suc i) [] = omega arith
+    front_short (suc i) (y ∷ ys) = omega (arith, length-append (g y) (flat_map g (take i ys)), length-append (g y) (flat_map g ys), front_short i ys)
 
-  pub joined_put : (xs : List X) (i : ℕ) (x : X) (before out piece : List ℕ) (at n : ℕ) → i < length xs → Put (flat_map f (take i xs)) before out at → Put (f (get_or xs i x)) (take (length out - at) (drop at out)) piece n → Put (flat_map f (take (i + 1) xs)) before (put_mid at (length out - at) out piece) (at + n)
-  joined_put xs i x before out piece at n h p q =
-      subst (λ (t : List ℕ). Put t before (put_mid at (length out - at) out piece) (at + n)) (sym (joined_next xs i x h))
-      (put_more (flat_map f (take i xs)) (f (get_or xs i x)) before out piece at n p q)
+    -- at each point the text has room where the whole has
+    pub items_room : (n : ℕ) → length (flat_map g all) ≤ n → HoldsAlong steps s (λ xs. length (flat_map f xs) ≤ n)
+    items_room n room xs t y =
+        omega (arith, ap length (read xs ∙ ap (flat_map g) (YieldsList-so_far e xs t y)), front_short (length xs) all)
 
-  pub joined_all : (xs : List X) (i : ℕ) (before out : List ℕ) (at : ℕ) → length xs ≤ i → Put (flat_map f (take i xs)) before out at → Put (flat_map f xs) before out at
-  joined_all xs i before out at h = subst (λ (ys : List X). Put (flat_map f ys) before out at) (take_all i xs h)
+    -- at the end it is the whole
+    pub items_text : (xs : List A) → Drains steps s xs → flat_map f xs ≡ flat_map g all
+    items_text xs d = read xs ∙ ap (flat_map g) (YieldsList-end e xs d.1.0 d.1.1 None d.0 refl d.1.2).0
+
+    pub items_put : (before after : List ℕ) (n : ℕ) → (xs : List A) × Drains steps s xs × Put (flat_map f xs) before after n → Put (flat_map g all) before after n
+    items_put before after n h = subst (λ (t : List ℕ). Put t before after n) (items_text h.0 h.1) h.2
+
+-- The same of a line of fields.
+module _ {S : Type 0} {steps : S → Option Field → S → Type 0} {s : S} {all : List Field} (e : YieldsList steps (λ f. f) s all) where
+  pub line_room : (n : ℕ) → length (line_text all) ≤ n → HoldsAlong steps s (λ xs. length (line_text xs) ≤ n)
+  line_room n room xs t y =
+      let short = items_room field_text (λ f. f) field_text (λ f. refl) e (length (fields_text all)) (omega arith) xs t y in
+      omega (arith, short, length-append (fields_text xs) (10 ∷ []), length-append (fields_text all) (10 ∷ []))
+
+  pub line_put : (before after : List ℕ) (n : ℕ) → (xs : List Field) × Drains steps s xs × Put (line_text xs) before after n → Put (line_text all) before after n
+  line_put before after n h =
+      subst (λ (t : List ℕ). Put (t ++ 10 ∷ []) before after n) (items_text field_text (λ f. f) field_text (λ f. refl) e h.0 h.1) h.2

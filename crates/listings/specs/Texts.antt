@@ -7,9 +7,13 @@ use Rattle.rig.specs.Verdicts.{verdict_number}
 use Rattle.frames.specs.Digits.{numeral}
 use Rattle.listings.specs.declared.fields.Field.{Field}
 
+-- the digits of a field
+abbrev pub field_text : Field → List ℕ
+field_text f = numeral f.0 f.1
+
 -- the digits of fields, one behind the other
 abbrev pub fields_text : List Field → List ℕ
-fields_text fs = flat_map (λ (f : Field). numeral f.0 f.1) fs
+fields_text fs = flat_map field_text fs
 
 -- a line of these fields, closed
 abbrev pub line_text : List Field → List ℕ

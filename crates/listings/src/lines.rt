@@ -1,23 +1,18 @@
 // The lines of a stored round.
-ghost use Rattle.std.specs.Prelude.{◌≡◌, ◌+◌, ◌*◌, ◌≤◌, length, take, IfOk};
-ghost use Rattle.std.specs.List.{flat_map};
-ghost use Rattle.frames.specs.Digits.{numeral};
-ghost use Rattle.banks.specs.Stored.{most_dwells, head_line, bank_line, bank_lines};
-ghost use Rattle.rounds.specs.Parts.{part_size, part_line, part_lines, parts_of};
+ghost use Rattle.std.specs.Prelude.{◌≡◌, ◌*◌, ◌<◌, ◌≤◌, length, take, IfOk};
+ghost use Rattle.banks.specs.Stored.{head_line, bank_line, bank_lines, most_dwells};
+ghost use Rattle.rounds.specs.Parts.{part_line, part_lines, parts_of};
+ghost use Rattle.rounds.specs.Record.{list_of};
 ghost use Rattle.rounds.specs.Stored.{round_text};
 ghost use Rattle.listings.specs.Answers.{stored_text, ReadsBack};
 ghost use Rattle.listings.specs.Writing.{Put, Wrote};
 
-use crate::fields::{Field, put_close, put_fields, put_line, put_number};
+use crate::fields::{Field, put_fields, put_line};
+use crate::listed::{Listed, Listing, put_all, write};
 use crate::short::TooShort;
 use banks::{Bank, BankTable};
+use frames::Kind;
 use rounds::RoundRecord;
-
-const ROUND_HEAD: u32 = 0x11;
-
-const ROUND_BANK: u32 = 0x12;
-
-const ROUND_PART: u32 = 0x13;
 
 // The most dwells of one line.
 const PART_SIZE: usize = 16;
@@ -32,113 +27,113 @@ const PART_LENGTH: usize = 5;
 const DWELL_LENGTH: usize = 2;
 
 // The head line.
-fn put_head(out: &mut [u8], table: &BankTable, dwells: usize) -> usize
-    requires { (13 ≤ length out.old) × (dwells ≤ most_dwells) }
+fn put_head(table: &BankTable, dwells: usize, out: &mut [u8]) -> usize
+    requires { 13 ≤ length out.old }
     ensures { Put (head_line table.now.count table.now.settle dwells) out.old out.new result }
 {
-    put_line(
-        out,
+    put_fields(
         &[
-            Field(2, ROUND_HEAD),
-            Field(2, table.count() as u32),
-            Field(4, table.settle() as u32),
-            Field(4, dwells as u32),
+            Field(2, Kind::RoundHead as usize),
+            Field(2, table.count() as usize),
+            Field(4, table.settle() as usize),
+            Field(4, dwells),
         ],
+        out,
     )
 }
 
-// The line of bank i.
-fn put_bank(out: &mut [u8], i: u8, bank: Bank) -> usize
-    requires { 15 ≤ length out.old }
-    ensures { Put (bank_line i bank) out.old out.new result }
-{
-    put_line(
-        out,
-        &[
-            Field(2, ROUND_BANK),
-            Field(2, i as u32),
-            Field(2, bank.panel as u32),
-            Field(4, bank.dwell as u32),
-            Field(4, bank.gap as u32),
-        ],
-    )
-}
+// The line of a bank with this number.
+#[derive(Clone, Copy)]
+struct BankLine(usize, Bank);
 
-// The lines of all banks of a table.
-fn put_banks(out: &mut [u8], table: &BankTable) -> usize
-    requires { 15 * table.now.count ≤ length out.old }
-    ensures { Put (bank_lines table.now.banks table.now.count) out.old out.new result }
-{
-    let mut at = 0;
-    for i in 0..table.count() {
-        at += put_bank(&mut out[at..], i, table.at(i as usize));
-    }
-    at
-}
+impl Listed for BankLine {
+    ghost text = { λ l. bank_line l.0 l.1 };
 
-// The numbers of banks, two digits each.
-fn put_numbers(out: &mut [u8], banks: &[u8]) -> usize
-    requires { 2 * length banks.now ≤ length out.old }
-    ensures { Put (flat_map (numeral 2) banks.now) out.old out.new result }
-{
-    let mut at = 0;
-    for bank in banks {
-        at += put_number(&mut out[at..], Field(2, *bank as u32));
+    fn put(&self, out: &mut [u8]) -> usize {
+        let BankLine(i, bank) = *self;
+        put_fields(
+            &[
+                Field(2, Kind::RoundBank as usize),
+                Field(2, i),
+                Field(2, bank.panel as usize),
+                Field(4, bank.dwell as usize),
+                Field(4, bank.gap as usize),
+            ],
+            out,
+        )
     }
-    at
 }
 
 // The line of one part of a list.
-fn put_part(out: &mut [u8], banks: &[u8]) -> usize
-    requires few { length banks.now ≤ part_size }
-    requires room { 5 + 2 * length banks.now ≤ length out.old }
-    ensures { Put (part_line banks.now) out.old out.new result }
-{
-    let mut at = put_fields(out, &[Field(2, ROUND_PART), Field(2, banks.len() as u32)]);
-    at += put_numbers(&mut out[at..], banks);
-    at + put_close(&mut out[at..])
+#[derive(Clone, Copy)]
+struct Part<'a>(&'a [u8]);
+
+impl Listed for Part<'_> {
+    ghost text = { λ p. part_line p.0.now };
+
+    fn put(&self, out: &mut [u8]) -> usize {
+        let banks = self.0;
+        let head = [Field(2, Kind::RoundPart as usize), Field(2, banks.len())];
+        let numbers = banks.iter().map(|bank| Field(2, *bank as usize));
+        put_line(head.iter().copied().chain(numbers), out)
+    }
 }
 
-// The number of parts of a list.
-fn parts_of(dwells: usize) -> usize
-    requires { dwells ≤ most_dwells }
-    ensures { result ≡ parts_of dwells }
+// The lines of all banks of a table.
+fn put_banks(table: &BankTable, out: &mut [u8]) -> usize
+    requires { 15 * table.now.count ≤ length out.old }
+    ensures { Put (bank_lines table.now.banks table.now.count) out.old out.new result }
 {
-    (dwells + PART_SIZE - 1) / PART_SIZE
+    let numbers = 0..table.count() as usize;
+    put_all(numbers.map(|i| BankLine(i, table.at(i))), out)
 }
 
 // The lines of all parts of a list.
-fn put_parts(out: &mut [u8], list: &[u8]) -> usize
+fn put_parts(list: &[u8], out: &mut [u8]) -> usize
     requires { length (part_lines list.now (parts_of (length list.now))) ≤ length out.old }
     ensures { Put (part_lines list.now (parts_of (length list.now))) out.old out.new result }
 {
-    let mut at = 0;
-    for part in list.chunks(PART_SIZE) {
-        at += put_part(&mut out[at..], part);
+    put_all(list.chunks(PART_SIZE).map(Part), out)
+}
+
+// A stored round: the table and the list of a record.
+#[derive(Clone, Copy)]
+pub(crate) struct StoredRound<'a> {
+    pub(crate) table: BankTable,
+    pub(crate) list: &'a [u8],
+    ghost few: { length list.now ≤ most_dwells },
+}
+
+impl<'a> StoredRound<'a> {
+    pub(crate) fn of(round: &'a RoundRecord) -> StoredRound<'a>
+        ensures table { result.table ≡ round.now.table }
+        ensures list { result.list.now ≡ list_of round.now }
+        ensures some { 0 < length (list_of round.now) }
+    {
+        StoredRound {
+            table: round.table(),
+            list: round.list(),
+        }
     }
-    at
 }
 
-// The length of the text of a table and a list.
-pub(crate) fn round_length(table: &BankTable, list: &[u8]) -> usize
-    requires { length list.now ≤ most_dwells }
-    ensures text { result ≡ length (round_text table.now list.now) }
-    ensures most { result ≤ 9725 }
-{
-    let banks = table.count() as usize;
-    let dwells = list.len();
-    HEAD_LENGTH + BANK_LENGTH * banks + PART_LENGTH * parts_of(dwells) + DWELL_LENGTH * dwells
+impl Listed for StoredRound<'_> {
+    ghost text = { λ r. round_text r.table r.list.now };
+
+    fn put(&self, out: &mut [u8]) -> usize {
+        let mut at = put_head(&self.table, self.list.len(), out);
+        at += put_banks(&self.table, &mut out[at..]);
+        at + put_parts(self.list, &mut out[at..])
+    }
 }
 
-// The lines of a table and a list.
-pub(crate) fn put_round(out: &mut [u8], table: &BankTable, list: &[u8]) -> usize
-    requires few { length list.now ≤ most_dwells }
-    requires room { length (round_text table.now list.now) ≤ length out.old }
-    ensures { Put (round_text table.now list.now) out.old out.new result }
-{
-    let mut at = put_head(out, table, list.len());
-    at += put_banks(&mut out[at..], table);
-    at + put_parts(&mut out[at..], list)
+impl Listing for StoredRound<'_> {
+    fn needed(&self) -> usize {
+        let banks = self.table.count() as usize;
+        let dwells = self.list.len();
+        let parts = (dwells + PART_SIZE - 1) / PART_SIZE;
+        HEAD_LENGTH + BANK_LENGTH * banks + PART_LENGTH * parts + DWELL_LENGTH * dwells
+    }
 }
 
 // Writes the stored round of a record; where there is no room, nothing.
@@ -146,11 +141,5 @@ pub fn write_round(round: &RoundRecord, out: &mut [u8]) -> Result<usize, TooShor
     ensures reply { Wrote (stored_text round.now) out.old out.new result }
     ensures read { IfOk result (λ n. ReadsBack (take n out.new) round.now) }
 {
-    let table = round.table();
-    let list = round.list();
-    let needed = round_length(&table, list);
-    if out.len() < needed {
-        return Err(TooShort { needed });
-    }
-    Ok(put_round(out, &table, list))
+    write(&StoredRound::of(round), out)
 }

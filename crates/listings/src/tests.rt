@@ -25,7 +25,7 @@ fn record_of(bytes: &[u8]) -> Result<RoundRecord, FileFault> {
 fn answer_with_a_round(rt: HostRuntime) -> Result<(), Fail> {
     let record = record_of(ROUND)?;
     let mut out = [b'-'; 67];
-    assert_eq!(rt; write_answer(Verdict::Round, 12, &record, &mut out), Ok(65));
+    assert_eq!(rt; write_answer(Finding::Round(&record), 12, &mut out), Ok(65));
     assert!(rt; &out[..65] == ANSWER);
     assert!(rt; &out[65..] == b"--".as_slice());
     Ok(())
@@ -35,10 +35,8 @@ fn answer_with_a_round(rt: HostRuntime) -> Result<(), Fail> {
 fn answer_without_a_round(rt: HostRuntime) -> Result<(), Fail> {
     let record = record_of(ROUND)?;
     let mut out = [b'-'; 15];
-    assert_eq!(rt;
-        write_answer(Verdict::Full, 0xFFFF_FFFF, &record, &mut out),
-        Ok(13)
-    );
+    let finding = Finding::of(Verdict::Full, &record);
+    assert_eq!(rt; write_answer(finding, 0xFFFF_FFFF, &mut out), Ok(13));
     assert!(rt; &out[..] == b"1003FFFFFFFF\n--".as_slice());
     Ok(())
 }
@@ -71,7 +69,7 @@ fn long_round(rt: HostRuntime) -> Result<(), Fail> {
 fn one_byte_too_short(rt: HostRuntime) -> Result<(), Fail> {
     let record = record_of(ROUND)?;
     let mut out = [b'-'; 64];
-    match write_answer(Verdict::Round, 12, &record, &mut out) {
+    match write_answer(Finding::Round(&record), 12, &mut out) {
         Ok(_) => return Err(Fail::new("written")),
         Err(short) => assert_eq!(rt; short.told(), Refusal::of_length(9, 65)),
     }

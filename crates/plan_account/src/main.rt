@@ -3,8 +3,7 @@
 #![tactic(auto)]
 
 use accounts::{Account, SheetAccount};
-use planner::answer_sheet;
-use rig::Verdict;
+use planner::{Answer, Finding, answer_sheet};
 use sheets::read_sheet;
 use std::io;
 use std::io::Read;
@@ -19,26 +18,23 @@ fn main(rt: HostRuntime) -> io::Result<()> {
         Ok(sheet) => sheet,
         Err(fault) => return println!(rt; "{}\n{fault}", fault.told()),
     };
-    let answer = answer_sheet(&sheet);
-    let visits = answer.visits;
+    let Answer { finding, visits } = answer_sheet(&sheet);
     print!(rt; "{}", SheetAccount { sheet: &sheet })?;
-    match answer.verdict {
-        Verdict::NoRound => println!(rt;
+    match finding {
+        Finding::NoRound => println!(rt;
             "verdict none after {visits} visits: no order of dwells keeps every gap for ever"
         ),
-        Verdict::Round => {
+        Finding::Round(round) => {
             println!(rt; "verdict round after {visits} visits: this round is kept for ever")?;
             print!(rt;
                 "{}",
-                Account {
-                    round: &answer.round
-                }
+                Account { round: &round }
             )
         }
-        Verdict::Open => println!(rt;
+        Finding::Open => println!(rt;
             "verdict open after {visits} visits: the search is not finished"
         ),
-        Verdict::Full => println!(rt;
+        Finding::Full => println!(rt;
             "verdict full after {visits} visits: the rows did not suffice"
         ),
     }

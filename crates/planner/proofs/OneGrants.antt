@@ -1,37 +1,48 @@
 -- One grant over the planner's rows.
-use Rattle.std.proofs.Common.{◌≡◌, ℕ, List, [], length, take, drop, Some, None, Ok, Option, Result, sym, refl, ap, ◌∙◌, subst, arith}
+use Rattle.std.proofs.Common.{◌≡◌, ℕ, List, [], length, take, drop, Some, Ok, Result, sym, refl, ap, ◌∙◌, subst, arith}
 use Rattle.std.proofs.lemmas.List.{length-drop, length-take}
 use Rattle.std.proofs.lemmas.List.Elements.{All-cons, All-nil}
 use Rattle.rig.specs.Guides.{Guided}
 use Rattle.rig.specs.Orders.{LawfulForEver}
+use Rattle.rig.specs.declared.verdict.Verdict.{Verdict}
 use Rattle.rig.specs.declared.verdict.Verdict.TheVariants as verdict
 use Rattle.sheets.specs.declared.sheet.Sheet.{Sheet}
 use Rattle.banks.specs.declared.table.BankTable.{BankTable}
 use Rattle.banks.specs.FromSheet.{TableOf}
 use Rattle.rounds.specs.declared.record.RoundRecord.{RoundRecord}
 use Rattle.rounds.specs.Record.{MakesRecord, list_of}
+use Rattle.listings.specs.declared.finding.Finding.{Finding}
+use Rattle.listings.specs.declared.finding.Finding.TheVariants.{NoRound, Round, Open, Full}
+use Rattle.listings.specs.Findings.{finding_of, verdict_of}
 use Rattle.search.specs.declared.calls.Call.{Call}
 use Rattle.search.specs.declared.calls.Outcome.{Outcome}
 use Rattle.search.specs.declared.calls.Reply.{Reply}
 use Rattle.search.specs.declared.calls.Short.{Short}
 use Rattle.search.specs.declared.row.Row.{Row}
-use Rattle.search.specs.declared.step.Standing.{Standing}
-use Rattle.search.specs.declared.step.Standing.TheVariants.{Open, NoRound, Full, Round}
-use Rattle.search.specs.Calls.{Brings, LastCopied, book_state}
-use Rattle.search.specs.Grants.{verdict_of}
+use Rattle.search.specs.Calls.{Brings}
 use Rattle.search.specs.Promised.{Completed, Promised, Searched}
 use Rattle.planner.specs.Plans.{RunsOn, round_in}
 use Rattle.planner.specs.Plans.RunsOn.{found, unfit, no_round, not_run}
-use Rattle.planner.specs.Answers.{AnswersOn, ServesSheet, Stock, one_grant_of, plan_rows, plan_visits}
+use Rattle.planner.specs.Answers.{AnswersOn, ServesSheet, one_grant_of, plan_rows, plan_visits}
 
--- a round is copied only with verdict round
-module _ {S : Type 0} (rows : List (Row S)) (taken : ℕ) (out out' : List ℕ) where
-  copied_round : (standing : Standing) (o : Option ℕ) → LastCopied (book_state rows taken standing) out o out' → (n : ℕ) → o ≡ Some n → verdict_of standing ≡ verdict.Round
-  copied_round standing None h n is = let z : ◌≡◌ {A = ℕ} 0 1 = cc in absurd (omega arith)
-  copied_round (Round p last) (Some k) h n is = refl
-  copied_round Open (Some k) h n is = let z : ◌≡◌ {A = ℕ} 0 1 = cc h.0 in absurd (omega arith)
-  copied_round NoRound (Some k) h n is = let z : ◌≡◌ {A = ℕ} 0 1 = cc h.0 in absurd (omega arith)
-  copied_round Full (Some k) h n is = let z : ◌≡◌ {A = ℕ} 0 1 = cc h.0 in absurd (omega arith)
+-- a finding has the verdict that it is made of, and a round only with verdict round
+verdict_kept : (v : Verdict) (r : RoundRecord) → verdict_of (finding_of v r) ≡ v
+verdict_kept verdict.NoRound r = refl
+verdict_kept verdict.Round r = refl
+verdict_kept verdict.Open r = refl
+verdict_kept verdict.Full r = refl
+
+round_or : RoundRecord → Finding RoundRecord → RoundRecord
+round_or d NoRound = d
+round_or d (Round r) = r
+round_or d Open = d
+round_or d Full = d
+
+found_with : (v : Verdict) (r q : RoundRecord) → finding_of v r ≡ Round q → (v ≡ verdict.Round) × (q ≡ r)
+unfolding round_or
+found_with v r q is =
+    let e : v ≡ verdict.Round = sym (verdict_kept v r) ∙ ap verdict_of is in
+    (e, sym (ap (round_or r) (subst (λ u. finding_of u r ≡ Round q) e is)))
 
 module _ {R S : Type 0} (means : R → Guided S) (rig : R) (rows : List (Row S)) (replies : List Reply) (room : List ℕ) (rows' : List (Row S)) (replies' : List Reply) (room' : List ℕ) (many : length rows ≡ plan_rows) (room-is : length room ≡ plan_rows) where
   module _ (s : Sheet) (stock r : RoundRecord) (x : Outcome) (kept : length rows' ≡ length rows) (long : length room' ≡ length room) (serves : ServesSheet s (means rig).rig) (h : Completed means rows (one_grant_of rig) replies room rows' replies' room' x) where
@@ -60,40 +71,28 @@ module _ {R S : Type 0} (means : R → Guided S) (rig : R) (rows : List (Row S))
     grant_list (no_round y done is same) v = let some = h.always.copied v in let e : y ≡ x = cc in let z : ◌≡◌ {A = ℕ} 0 1 = cc (some.1, ap (λ z. z.round) e) in absurd (omega arith)
     grant_list (not_run e done same) v = let z : ◌≡◌ {A = ℕ} 0 1 = cc in absurd (omega arith)
 
-    round_says : (n : ℕ) → x.round ≡ Some n → x.verdict ≡ verdict.Round
-    round_says n is =
-        let end = h.ran.end in
-        h.ran.verdict ∙ copied_round end.rows end.taken (drop 0 room) (drop 0 room') end.standing x.round h.ran.copied n is
-
-    grant_otherwise : Stock stock → RunsOn s room' (Ok x) stock r → (x.verdict ≡ verdict.Round → ⊥) → Stock r
-    grant_otherwise st (found t y n own done is holds) unlike = let e : y ≡ x = cc in absurd (unlike (round_says n (sym (ap (λ z. z.round) e) ∙ is)))
-    grant_otherwise st (unfit t y n own done is bad same) unlike = subst Stock (sym same) st
-    grant_otherwise st (no_round y done is same) unlike = subst Stock (sym same) st
-    grant_otherwise st (not_run e done same) unlike = subst Stock (sym same) st
-
-    pub answers_on : Stock stock → RunsOn s room' (Ok x) stock r → AnswersOn s (means rig) x.verdict x.taken r
-    answers_on st runs = record {
+    pub answers_on : RunsOn s room' (Ok x) stock r → AnswersOn s (means rig) (finding_of x.verdict r) x.taken
+    answers_on runs = record {
       search = record {
         rows = rows';
         many = kept ∙ many;
         bytes = drop 0 room';
         outcome = x;
         promised = promised;
-        verdict = refl;
+        verdict = sym (verdict_kept x.verdict r);
         taken = refl;
-        found = grant_list runs;
-        full = λ is. omega (arith, h.always.full is, kept, many);
-        decided = λ is. omega (arith, h.always.used is, h.always.within, kept, many);
+        found = λ q is. let same = found_with x.verdict r q is in let list = grant_list runs same.0 in (list.0, list.1, ap list_of same.1 ∙ list.2);
+        full = λ is. omega (arith, h.always.full (sym (verdict_kept x.verdict r) ∙ ap verdict_of is), kept, many);
+        decided = λ is. omega (arith, h.always.used (sym (verdict_kept x.verdict r) ∙ ap verdict_of is), h.always.within, kept, many);
         few = omega (arith, h.always.within, kept, many);
       };
-      for_sheet = grant_sheet runs;
-      otherwise = grant_otherwise st runs;
+      for_sheet = λ q is. let same = found_with x.verdict r q is in subst (λ z. TableOf s z.table) (sym same.1) (grant_sheet runs same.0);
     }
 
 -- as it comes from a plan
-pub answers_from : {R S : Type 0} (means : R → Guided S) (rig : R) (calls : List (Call R)) (rows : List (Row S)) (replies : List Reply) (room : List ℕ) (rows' : List (Row S)) (replies' : List Reply) (room' : List ℕ) (outcome : Result Outcome Short) (s : Sheet) (stock started r : RoundRecord) (x : Outcome) → length rows ≡ plan_rows → length room ≡ plan_rows → length rows' ≡ length rows → length room' ≡ length room → calls ≡ one_grant_of rig → ServesSheet s (means rig).rig → outcome ≡ Ok x → r ≡ started → Searched means rows calls replies room rows' replies' room' outcome → RunsOn s room' outcome stock started → Stock stock → AnswersOn s (means rig) x.verdict x.taken r
-answers_from means rig calls rows replies room rows' replies' room' outcome s stock started r x many room-is kept long one serves done same searched runs st =
-    answers_on means rig rows replies room rows' replies' room' many room-is s stock r x kept long serves
+pub answers_from : {R S : Type 0} (means : R → Guided S) (rig : R) (calls : List (Call R)) (rows : List (Row S)) (replies : List Reply) (room : List ℕ) (rows' : List (Row S)) (replies' : List Reply) (room' : List ℕ) (outcome : Result Outcome Short) (s : Sheet) (stock started r : RoundRecord) (x : Outcome) (f : Finding RoundRecord) → length rows ≡ plan_rows → length room ≡ plan_rows → length rows' ≡ length rows → length room' ≡ length room → calls ≡ one_grant_of rig → ServesSheet s (means rig).rig → outcome ≡ Ok x → r ≡ started → Searched means rows calls replies room rows' replies' room' outcome → RunsOn s room' outcome stock started → f ≡ finding_of x.verdict r → AnswersOn s (means rig) f x.taken
+answers_from means rig calls rows replies room rows' replies' room' outcome s stock started r x f many room-is kept long one serves done same searched runs made =
+    subst (λ h. AnswersOn s (means rig) h x.taken) (sym made)
+    (answers_on means rig rows replies room rows' replies' room' many room-is s stock r x kept long serves
     (subst (λ cs. Completed means rows cs replies room rows' replies' room' x) one (subst (λ o. Searched means rows calls replies room rows' replies' room' o) done searched))
-    st
-    (subst (RunsOn s room' (Ok x) stock) (sym same) (subst (λ o. RunsOn s room' o stock started) done runs))
+    (subst (RunsOn s room' (Ok x) stock) (sym same) (subst (λ o. RunsOn s room' o stock started) done runs)))

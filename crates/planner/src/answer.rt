@@ -5,8 +5,9 @@ ghost use Rattle.planner.specs.Answers.{Answers, AnswersOn, ServesSheet, one_gra
 
 use crate::planned::{Planned, plan};
 use banks::BankTable;
+use listings::Finding;
 use readers::{PanelledReader, PlainReader};
-use rig::{GuidedRig, Rig, Verdict};
+use rig::{GuidedRig, Rig};
 use rounds::RoundRecord;
 use search::{Call, Reply, Row};
 use sheets::Sheet;
@@ -16,30 +17,27 @@ pub const ROWS: usize = 1024;
 
 pub const GRANT: u32 = 4096;
 
-// The verdict, the visits made, and with verdict round the record of the round; otherwise it is the stock round.
+// What was found, with the record of the round where there is one, and the visits made.
 #[derive(Drop)]
 pub struct Answer {
-    pub verdict: Verdict,
+    pub finding: Finding<RoundRecord>,
     pub visits: u32,
-    pub round: RoundRecord,
 }
 
 // The answer that one grant over these rows gives.
 fn answer_on<R: GuidedRig>(sheet: &Sheet, rows: &mut [Row<R::State>], calls: &[Call<R>]) -> Answer
     requires many { length rows.old ≡ plan_rows }
     requires one { (rig : R) × (calls.now ≡ one_grant_of rig) }
-    ensures { (rig : R) → calls.now ≡ one_grant_of rig → ServesSheet sheet.now (R.Rig.means rig) → AnswersOn sheet.now (guided (R.Rig.means rig) (R.GuidedRig.guide rig)) result.verdict result.visits result.round }
+    ensures { (rig : R) → calls.now ≡ one_grant_of rig → ServesSheet sheet.now (R.Rig.means rig) → AnswersOn sheet.now (guided (R.Rig.means rig) (R.GuidedRig.guide rig)) result.finding result.visits }
 {
     let mut replies = [Reply::Wiped];
     let mut room = [0u8; ROWS];
     let stock = RoundRecord::stock();
     let Planned { outcome, reader } = plan(sheet, rows, calls, &mut replies, &mut room, stock);
-    let round = reader.stop();
     match outcome {
         Ok(done) => Answer {
-            verdict: done.verdict,
+            finding: Finding::of(done.verdict, reader.stop()),
             visits: done.taken as u32,
-            round,
         },
         Err(_) => unreachable(),
     }
@@ -47,9 +45,10 @@ fn answer_on<R: GuidedRig>(sheet: &Sheet, rows: &mut [Row<R::State>], calls: &[C
 
 // Searches for a round for the sheet: on the plain reader where nothing settles, and else on the panelled one.
 pub fn answer_sheet(sheet: &Sheet) -> Answer
-    ensures { Answers sheet.now result.verdict result.visits result.round }
+    ensures { Answers sheet.now result.finding result.visits }
 {
     let table = BankTable::of_sheet(sheet);
+    // Each arm makes its own rows: of an array of a type parameter it is not known in generic code that it fits in memory.
     if sheet.settle() == 0 {
         let rig = PlainReader::new(table);
         let mut rows = [Row::new(rig.rest()); ROWS];

@@ -6,5 +6,6 @@ mod planned;
 mod text;
 
 pub use answer::{Answer, GRANT, ROWS, answer_sheet};
+pub use listings::Finding;
 pub use planned::{Planned, plan};
 pub use text::plan_text;

@@ -32,13 +32,15 @@ fn round_to_run(
     requires { IfOk outcome.now (λ x. (n : ℕ) → x.round ≡ Some n → x.from + n ≤ length room.now) }
     ensures { RunsOn sheet.now room.now outcome.now handed result }
 {
+    let Ok(done) = outcome else {
+        return handed;
+    };
+    let Some(length) = done.round else {
+        return handed;
+    };
     let mut round = handed;
-    if let Ok(done) = outcome {
-        if let Some(length) = done.round {
-            let table = BankTable::of_sheet(sheet);
-            let _ = round.fill(table, &room[done.from..done.from + length]);
-        }
-    }
+    let table = BankTable::of_sheet(sheet);
+    let _ = round.fill(table, &room[done.from..done.from + length]);
     round
 }
 

@@ -14,7 +14,7 @@ pub fn plan_text(bytes: &[u8], out: &mut [u8]) -> Result<usize, TooShort>
     match read_sheet(bytes) {
         Ok(sheet) => {
             let answer = answer_sheet(&sheet);
-            write_answer(answer.verdict, answer.visits, &answer.round, out)
+            write_answer(answer.finding.as_ref(), answer.visits, out)
         }
         Err(fault) => write_refusal(&fault.told(), out),
     }

@@ -1,32 +1,23 @@
-use Rattle.std.proofs.Common.{ℕ, ◌+◌, ◌-◌, List, length, take, drop, sym, subst, arith}
-use borrow.Rule.Slice.PartMut.{put_mid}
-use Rattle.banks.specs.declared.table.Bank.{Bank}
-use Rattle.banks.specs.Limits.{bank_at}
-use Rattle.banks.specs.Stored.{bank_line, bank_lines}
-use Rattle.banks.proofs.TableLines.{bank_lines_more}
+use Rattle.std.proofs.Common.{length, refl, ap, subst, arith, rules}
+use Rattle.std.proofs.lemmas.Iterator.{YieldsList-from_range, YieldsList-from_map}
+use Rattle.banks.specs.Stored.{bank_line}
+use Rattle.listings.specs.declared.lines.BankLine.{BankLine}
 use Rattle.listings.specs.Writing.{Put}
-use Rattle.listings.proofs.Puts.{put_none, put_more, rest_room}
-use Rattle.listings.proofs.RoundLines.{length_banks}
+use Rattle.listings.proofs.Puts.{items_room, items_put}
+use Rattle.listings.proofs.RoundLines.{numbered, banks_text, length_banks}
 use Rattle.listings.proofs.lines.put_banks.Goals as goal
 
-pub loop-i-init : goal.loop-i-init
-unfolding bank_lines
-loop-i-init c = put_none c.args.out.now
+pub put_all-requires-clause-room : goal.put_all-requires-clause-room
+put_all-requires-clause-room c =
+    let t = c.args.table.now in
+    items_room (λ (l : BankLine). bank_line l.0 l.1) (λ l. l) (λ l. bank_line l.0 l.1) (λ l. refl)
+    (YieldsList-from_map _ (numbered t.banks) (YieldsList-from_range 0 t.count t.count (cc) (omega arith)) c.map.ensures.closure (λ x r q k. search rules))
+    _ (omega (arith, c.requires, ap length (banks_text t.banks t.count), length_banks t.banks t.count))
 
-pub put_bank-at-requires : goal.put_bank-at-requires
-put_bank-at-requires c =
-    let bs = c.args.table.now.banks in
-    let p = c.loop-i.invariant in
-    rest_room (bank_lines bs c.loop-i.i) c.args.out.now c.loop-i.out c.loop-i.at 15 p (omega (arith, c.requires, p.told, length_banks bs c.loop-i.i, c.loop-i-test.true, c.count-i-end.ensures))
-
-pub loop-i-preserved : goal.loop-i-preserved
-loop-i-preserved c =
-    let bs = c.args.table.now.banks in
-    let i = c.loop-i.i in
-    let at = c.loop-i.at in
-    let out = c.loop-i.out in
-    let piece = c.put_bank-at.new.out in
-    let n = c.put_bank-at.result in
-    subst (λ (t : List ℕ). Put t c.args.out.now (put_mid at (length out - at) out piece) (at + n)) (sym (bank_lines_more bs i))
-    (put_more (bank_lines bs i) (bank_line i (bank_at bs i)) c.args.out.now out piece at n c.loop-i.invariant
-    (subst (λ (b : Bank). Put (bank_line i b) (take (length out - at) (drop at out)) piece n) c.at.ensures c.put_bank-at.ensures))
+pub returns : goal.returns
+returns c =
+    let t = c.args.table.now in
+    subst (λ text. Put text c.args.out.now c.put_all.new.out c.put_all.result) (banks_text t.banks t.count)
+    (items_put (λ (l : BankLine). bank_line l.0 l.1) (λ l. l) (λ l. bank_line l.0 l.1) (λ l. refl)
+    (YieldsList-from_map _ (numbered t.banks) (YieldsList-from_range 0 t.count t.count (cc) (omega arith)) c.map.ensures.closure (λ x r q k. search rules))
+    c.args.out.now c.put_all.new.out c.put_all.result c.put_all.ensures)

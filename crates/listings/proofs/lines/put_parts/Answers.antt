@@ -1,24 +1,23 @@
-use Rattle.std.proofs.Common.{length, ap, ◌∙◌}
-use Rattle.std.specs.Slice.Iter.{chunks_rest, chunks_size}
-use Rattle.std.proofs.lemmas.List.{length_push}
-use Rattle.listings.proofs.RoundLines.{parts_none, parts_more, next_few, next_room}
+use Rattle.std.proofs.Common.{length, refl, ap, subst, arith, rules}
+use Rattle.std.proofs.lemmas.Iterator.{YieldsList-from_map_by}
+use Rattle.rounds.specs.Parts.{part_line, parts_of}
+use Rattle.listings.specs.declared.lines.Part.{Part}
+use Rattle.listings.specs.Writing.{Put}
+use Rattle.listings.proofs.Puts.{items_room, items_put}
+use Rattle.listings.proofs.RoundLines.{chunks_are_parts, parts_text}
 use Rattle.listings.proofs.lines.put_parts.Goals as goal
 
-pub loop-part-init : goal.loop-part-init
-loop-part-init c =
-    let same = c.into_iter-part-iterator.ensures.into_iter_gives in
-    parts_none c.args.list.now c.args.out.now c.requires _ _ (ap chunks_rest same ∙ c.chunks-part-items.ensures.rest) (ap chunks_size same ∙ c.chunks-part-items.ensures.size)
+pub put_all-requires-clause-room : goal.put_all-requires-clause-room
+put_all-requires-clause-room c =
+    let xs = c.args.list.now in
+    items_room (λ (p : Part). part_line p.0.now) (λ p. p.0.now) part_line (λ p. refl)
+    (YieldsList-from_map_by _ (λ (p : Part). p.0.now) (λ ys. ys) (chunks_are_parts xs _ (cc) (cc)) c.map.ensures.closure (λ x r q k. search rules))
+    _ (omega (arith, c.requires, ap length (parts_text xs (parts_of (length xs)))))
 
-pub put_part-at-requires : goal.put_part-at-requires
-put_part-at-requires c =
-    let step = c.in-Some.ensures.steps.1 in
-    record {
-      few = next_few c.args.list.now c.args.out.now c.requires c.loop-part.out c.loop-part.at (length c.loop-part.yielded) _ _ c.loop-part.invariant c.in-Some.part.now _ step.0 step.1 step.2;
-      room = next_room c.args.list.now c.args.out.now c.requires c.loop-part.out c.loop-part.at (length c.loop-part.yielded) _ _ c.loop-part.invariant c.in-Some.part.now _ step.0 step.1 step.2;
-    }
-
-pub loop-part-preserved : goal.loop-part-preserved
-loop-part-preserved c =
-    let step = c.in-Some.ensures.steps in
-    parts_more c.args.list.now c.args.out.now c.requires c.loop-part.out c.loop-part.at (length c.loop-part.yielded) _ _ c.loop-part.invariant c.in-Some.part.now _ step.1.0 step.1.1 step.1.2
-    c.put_part-at.new.out c.put_part-at.result _ _ (length_push c.loop-part.yielded c.in-Some.part) step.0 c.put_part-at.ensures
+pub returns : goal.returns
+returns c =
+    let xs = c.args.list.now in
+    subst (λ text. Put text c.args.out.now c.put_all.new.out c.put_all.result) (parts_text xs (parts_of (length xs)))
+    (items_put (λ (p : Part). part_line p.0.now) (λ p. p.0.now) part_line (λ p. refl)
+    (YieldsList-from_map_by _ (λ (p : Part). p.0.now) (λ ys. ys) (chunks_are_parts xs _ (cc) (cc)) c.map.ensures.closure (λ x r q k. search rules))
+    c.args.out.now c.put_all.new.out c.put_all.result c.put_all.ensures)

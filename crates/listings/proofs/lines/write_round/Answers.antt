@@ -1,14 +1,14 @@
-use Rattle.std.proofs.Common.{length, sym, ap, ◌∙◌}
-use Rattle.listings.specs.Answers.{stored_text}
-use Rattle.listings.proofs.Readings.{front, put_stored, reads_back}
+use Rattle.std.proofs.Common.{length, ap, subst, arith}
+use Rattle.listings.specs.Writing.{Wrote}
+use Rattle.listings.proofs.Readings.{read_back, round_is}
 use Rattle.listings.proofs.lines.write_round.Goals as goal
 
 pub returns : goal.returns
 returns c =
     let r = c.args.round.now in
-    let list = c.list-list.ensures in
-    let p = put_stored r c.table-table.result c.list-list.result.now c.args.out.now c.put_round.new.out c.put_round.result c.table-table.ensures list.value c.put_round.ensures in
+    let e = c.of.ensures in
+    let reply = subst (λ text. Wrote text c.args.out.now c.write.new.out c.write.result) (round_is r c.of.result.table c.of.result.list.now e.table e.list) c.write.ensures in
     record {
-      reply = p;
-      read = reads_back r _ (ap length (sym list.value) ∙ list.len) (front (stored_text r) c.args.out.now c.put_round.new.out c.put_round.result p);
+      reply = reply;
+      read = read_back r c.args.out.now c.write.new.out c.write.result e.some (omega (arith, c.of.result.few, ap length e.list)) reply;
     }

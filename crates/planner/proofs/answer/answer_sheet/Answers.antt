@@ -16,7 +16,7 @@ returns-then-settle-eq0 c =
     let own = subst (TableOf s) (sym c.new-rig.ensures) c.of_sheet-table.ensures in
     let unsettled : s.settle ≡ 0 = sym c.settle.ensures ∙ c.if-settle-eq0.true in
     let a = c.answer_on.result in
-    answered_plain s rig.table own a.verdict a.visits a.round unsettled (c.answer_on.ensures rig refl (plain_serves s rig.table own unsettled))
+    answered_plain s rig.table own a.finding a.visits unsettled (c.answer_on.ensures rig refl (plain_serves s rig.table own unsettled))
 
 pub returns-else-settle-eq0 : goal.returns-else-settle-eq0
 returns-else-settle-eq0 c =
@@ -24,4 +24,4 @@ returns-else-settle-eq0 c =
     let rig = c.new-rig-else-settle-eq0.result in
     let own = subst (TableOf s) (sym c.new-rig-else-settle-eq0.ensures) c.of_sheet-table.ensures in
     let a = c.answer_on-else-settle-eq0.result in
-    answered_panelled s rig.table own a.verdict a.visits a.round (λ is. c.if-settle-eq0.false (c.settle.ensures ∙ is)) (c.answer_on-else-settle-eq0.ensures rig refl (panelled_serves s rig.table own))
+    answered_panelled s rig.table own a.finding a.visits (λ is. c.if-settle-eq0.false (c.settle.ensures ∙ is)) (c.answer_on-else-settle-eq0.ensures rig refl (panelled_serves s rig.table own))
