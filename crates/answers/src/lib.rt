@@ -5,6 +5,7 @@ ghost use Rattle.std.specs.Prelude.{◌≡◌, ◌+◌, take, IfOk, IfSome};
 
 use accounts::{Account, SheetAccount};
 use frames::MOST_BYTES;
+use planner::plan_text;
 use refusals::Refusal;
 use rounds::{RoundRecord, read_round};
 use sheets::read_sheet;
@@ -15,6 +16,9 @@ use std::io::Read;
 
 // One byte more than the longest file that is read: with it a file that is too long is known.
 const ROOM: u64 = MOST_BYTES as u64 + 1;
+
+// Every listing fits into so many bytes.
+const LISTING: usize = 16384;
 
 // The bytes of a file: as many as the longest file has, and one more where there are more.
 pub fn read_file<R: Read + Drop>(heap: Global, input: R) -> io::Result<Vec<u8>>
@@ -39,6 +43,15 @@ pub fn print_sheet(rt: &impl Print, file: &[u8]) -> io::Result<()> {
     match read_sheet(file) {
         Ok(sheet) => print!(rt; "{}", SheetAccount { sheet: &sheet }),
         Err(fault) => print_refusal(rt, fault.told(), fault),
+    }
+}
+
+// Prints the verdict on a file as a feeder sheet with its round, or why it is refused.
+pub fn print_plan(rt: &impl Print, file: &[u8]) -> io::Result<()> {
+    let mut listing = [0u8; LISTING];
+    match plan_text(file, &mut listing) {
+        Ok(length) => rt.write_all(&listing[..length]),
+        Err(_) => unreachable(),
     }
 }
 
