@@ -53,7 +53,10 @@ impl Head for Kind {
 
     fn read(text: &[u8]) -> (Kind, usize) {
         match text.split_first() {
-            Some((letter, digits)) => (Kind::try_from(*letter).unwrap_or(Kind::Lists), number(digits)),
+            Some((letter, digits)) => (
+                Kind::try_from(*letter).unwrap_or(Kind::Lists),
+                number(digits),
+            ),
             None => (Kind::Lists, 0),
         }
     }

@@ -51,7 +51,12 @@ fn answer_list<R: Rig>(rt: &HostRuntime, name: &str, reader: &R, list: &[u8]) ->
 // A list behind the lines of a table, on both readers.
 fn answer_lists(rt: &HostRuntime, stored: &StoredTable, digits: &[u8]) -> anyhow::Result<()> {
     let mut list = Vec::new(rt.alloc());
-    for bank in digits.chunks_exact(2).map(number).chain(repeat(0)).take(stored.dwells as usize) {
+    for bank in digits
+        .chunks_exact(2)
+        .map(|digits| number(digits))
+        .chain(repeat(0))
+        .take(stored.dwells as usize)
+    {
         list.push(bank.min(255) as u8)?;
     }
     let list = list.as_slice();
