@@ -74,9 +74,11 @@ pub struct Cases<'a, H> {
 }
 
 impl<'a, H: Head> Cases<'a, H> {
+    ghost use Rattle.batches.specs.Cases.{bytes_left};
+
     // All cases of these bytes.
     pub fn new(bytes: &'a [u8]) -> Cases<'a, H>
-        ensures { result.rest.now ≡ bytes.now }
+        ensures { bytes_left result ≡ bytes.now }
     {
         Cases {
             rest: bytes,
@@ -86,11 +88,13 @@ impl<'a, H: Head> Cases<'a, H> {
 }
 
 impl<'a, H: Head> Iterator for Cases<'a, H> {
+    ghost use Rattle.batches.specs.Cases.{bytes_left};
+
     type Item = Case<'a, H>;
 
-    ghost next_gives = { λ s r t. MatchOption r (s.rest.now ≡ []) (λ c. CutsCase H.ends H.size s.rest.now c.bytes.now t.rest.now) };
+    ghost next_gives = { λ s r t. MatchOption r (bytes_left s ≡ []) (λ c. CutsCase H.ends H.size (bytes_left s) c.bytes.now (bytes_left t)) };
 
-    ghost remaining = { λ s. at_most (length s.rest.now) };
+    ghost remaining = { λ s. at_most (length (bytes_left s)) };
 
     fn next(&mut self) -> Option<Case<'a, H>> {
         if self.rest.is_empty() {
