@@ -3,20 +3,16 @@
 #![tactic(auto)]
 
 use accounts::{Account, SheetAccount};
+use answers::{print_refusal, read_file};
 use planner::{Answer, Finding, answer_sheet};
 use sheets::read_sheet;
 use std::io;
-use std::io::Read;
-
-// One byte more than the longest file that is read: with it a file that is too long is known.
-const ROOM: u64 = 65537;
 
 fn main(rt: HostRuntime) -> io::Result<()> {
-    let mut input = Vec::new(rt.alloc());
-    rt.stdin().take(ROOM).read_to_end(&mut input)?;
-    let sheet = match read_sheet(input.as_slice()) {
+    let file = read_file(rt.alloc(), rt.stdin())?;
+    let sheet = match read_sheet(file.as_slice()) {
         Ok(sheet) => sheet,
-        Err(fault) => return println!(rt; "{}\n{fault}", fault.told()),
+        Err(fault) => return print_refusal(&rt, fault.told(), fault),
     };
     let Answer { finding, visits } = answer_sheet(&sheet);
     print!(rt; "{}", SheetAccount { sheet: &sheet })?;

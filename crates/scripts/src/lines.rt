@@ -1,66 +1,71 @@
 // The lines of a script.
-ghost use Rattle.std.specs.Prelude.{◌<◌, ◌≤◌, length};
+ghost use Rattle.std.specs.Prelude.{◌<◌, ◌≤◌, length, IfSome};
 
 use frames::LINE_END;
 
 // The most digits of a number.
 const MOST_DIGITS: usize = 10;
 
-// The place behind the line that begins here: behind the byte that closes it, or the end.
-pub(crate) fn line_end(bytes: &[u8], at: usize) -> usize
-    requires { at < length bytes.now }
-    ensures later { at < result }
-    ensures within { result ≤ length bytes.now }
-{
-    for k in at..bytes.len() {
-        if bytes[k] == LINE_END {
-            return k + 1;
-        }
-    }
-    bytes.len()
+// The lines from some place of a text on, and the number of the first, from 1.
+#[derive(Drop)]
+pub(crate) struct Lines<'a> {
+    rest: &'a [u8],
+    number: usize,
 }
 
-// The place behind the first line from here that begins with these bytes, or the end.
-pub(crate) fn end_with(bytes: &[u8], from: usize, start: &[u8]) -> usize
-    requires { from ≤ length bytes.now }
-    ensures later { from ≤ result }
-    ensures within { result ≤ length bytes.now }
-{
-    let mut at = from;
-    while at < bytes.len() {
-        let end = line_end(bytes, at);
-        if bytes[at..end].starts_with(start) {
-            return end;
+impl<'a> Lines<'a> {
+    // All lines of a text.
+    pub(crate) fn new(text: &'a [u8]) -> Lines<'a> {
+        Lines {
+            rest: text,
+            number: 1,
         }
-        at = end;
     }
-    at
+
+    // The number of the next line.
+    pub(crate) fn number(&self) -> usize {
+        self.number
+    }
+
+    // Cuts off the next line with the byte that closes it, if that is there.
+    pub(crate) fn cut_line(&mut self) -> Option<&'a [u8]>
+        ensures fewer { IfSome result (λ _. length self.new.rest.now < length self.old.rest.now) }
+        ensures within { length self.new.rest.now ≤ length self.old.rest.now }
+    {
+        let rest = self.rest;
+        if rest.is_empty() {
+            return None;
+        }
+        let end = rest.iter().position(|b| *b == LINE_END);
+        let (line, behind) = rest.split_at(end.map_or(rest.len(), |k| k + 1));
+        self.rest = behind;
+        self.number = self.number.saturating_add(1);
+        Some(line)
+    }
+
+    // Cuts off the lines up to the first that begins with these bytes, or all.
+    pub(crate) fn cut_through(&mut self, start: &[u8]) -> &'a [u8]
+        ensures { length self.new.rest.now ≤ length self.old.rest.now }
+    {
+        let lines = self.rest;
+        while let Some(line) = self.cut_line() {
+            if line.starts_with(start) {
+                break;
+            }
+        }
+        &lines[..lines.len() - self.rest.len()]
+    }
 }
 
-// How many lines there are: closed ones, and one more where the last is not closed.
-pub(crate) fn count_lines(bytes: &[u8]) -> usize
-    ensures { result ≤ length bytes.now }
-{
-    let mut lines = 0;
-    let mut at = 0;
-    while at < bytes.len() {
-        at = line_end(bytes, at);
-        lines += 1;
-    }
-    lines
+// The text of a line without the byte that closes it, if that is there.
+pub(crate) fn closed(line: &[u8]) -> Option<&str> {
+    str::from_utf8(line.strip_suffix(&[LINE_END])?).ok()
 }
 
 // The number that one to ten decimal digits write.
-pub(crate) fn decimal(digits: &[u8]) -> Option<u64> {
-    if digits.is_empty() || digits.len() > MOST_DIGITS {
+pub(crate) fn decimal(digits: &str) -> Option<u64> {
+    if digits.len() > MOST_DIGITS || !digits.bytes().all(|b| b.is_ascii_digit()) {
         return None;
     }
-    let mut n = 0u64;
-    for b in digits {
-        if *b < b'0' || *b > b'9' {
-            return None;
-        }
-        n = n.saturating_mul(10).saturating_add((*b - b'0') as u64);
-    }
-    Some(n)
+    digits.parse().ok()
 }

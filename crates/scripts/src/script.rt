@@ -1,11 +1,11 @@
 // Reads a script: a sheet, the number of rows, and calls.
-ghost use Rattle.std.specs.Prelude.{◌<◌, ◌≤◌, length};
+ghost use Rattle.std.specs.Prelude.{◌≤◌, length, IfOk};
 
-use crate::lines::{count_lines, decimal, end_with, line_end};
+use crate::lines::{Lines, closed, decimal};
 use banks::BankTable;
-use frames::LINE_END;
 use sheets::{SheetFault, read_sheet};
-use std::alloc::{AllocError, AllocFailed, Global};
+use std::alloc::{AllocError, Global};
+use thiserror::Error;
 
 // The limits of the numbers of a script.
 const MOST_ROWS: u64 = 100000;
@@ -13,6 +13,9 @@ const MOST_ROWS: u64 = 100000;
 const MOST_VISITS: u64 = 4294967295;
 
 const MOST_BUFFER: u64 = 70000;
+
+// The last line of a sheet begins with this.
+const SHEET_END: &[u8] = b"04";
 
 // What a line of a script asks for.
 #[derive(Clone, Copy)]
@@ -34,162 +37,110 @@ pub(crate) struct Script {
 }
 
 // What is wrong with a line.
-#[derive(Clone, Copy)]
+#[derive(Debug, Drop, Error)]
 pub(crate) enum LineFault {
+    #[error("a line 'rows N' is due here, with N at most 100000.")]
     NoRows,
+    #[error("no call stands here.")]
     NoCall,
+    #[error("the number is too large.")]
     TooLarge,
+    #[error("the sheet behind 'rig' cannot be read.")]
     BadSheet,
+    #[error("the sheet behind 'rig' is of another kind.")]
     OtherKind,
 }
 
 // Why a script cannot be read.
-#[derive(Drop)]
+#[derive(Debug, Drop, Error)]
 pub(crate) enum ScriptFault {
-    Memory(AllocError),
+    #[error("no memory")]
+    Memory(#[from(alloc)] AllocError),
+    #[error("{told}\n{sentence}", told = .0.told(), sentence = .0)]
     Sheet(SheetFault),
+    #[error("line {line}: {what}")]
     Line { line: usize, what: LineFault },
 }
 
-impl From<AllocError> for ScriptFault {
-    fn from(value: AllocError) -> ScriptFault {
-        ScriptFault::Memory(value)
+// The number that these digits write, if it is at most so large.
+fn number_within(digits: &str, most: u64) -> Result<u64, LineFault>
+    ensures { IfOk result (λ n. n ≤ most) }
+{
+    let number = decimal(digits).ok_or(LineFault::NoCall)?;
+    if number > most {
+        return Err(LineFault::TooLarge);
     }
-}
-
-impl<T: Drop> From<AllocFailed<T>> for ScriptFault {
-    fn from(value: AllocFailed<T>) -> ScriptFault {
-        ScriptFault::Memory(value.into())
-    }
+    Ok(number)
 }
 
 // What a line without its closing byte asks for; `rig` is read elsewhere.
-fn step_of(text: &[u8]) -> Result<Step, LineFault> {
-    if text == b"verdict".as_slice() {
-        return Ok(Step::Verdict);
+fn step_of(text: &str) -> Result<Step, LineFault> {
+    if let Some(digits) = text.strip_prefix("grant ") {
+        return Ok(Step::Grant(number_within(digits, MOST_VISITS)? as u32));
     }
-    if text == b"wipe".as_slice() {
-        return Ok(Step::Wipe);
+    if let Some(digits) = text.strip_prefix("copy ") {
+        return Ok(Step::Copy(number_within(digits, MOST_BUFFER)? as usize));
     }
-    if let Some(digits) = text.strip_prefix(b"grant ") {
-        return match decimal(digits) {
-            Some(n) if n <= MOST_VISITS => Ok(Step::Grant(n as u32)),
-            Some(_) => Err(LineFault::TooLarge),
-            None => Err(LineFault::NoCall),
-        };
-    }
-    if let Some(digits) = text.strip_prefix(b"copy ") {
-        return match decimal(digits) {
-            Some(n) if n <= MOST_BUFFER => Ok(Step::Copy(n as usize)),
-            Some(_) => Err(LineFault::TooLarge),
-            None => Err(LineFault::NoCall),
-        };
-    }
-    Err(LineFault::NoCall)
-}
-
-// The number of rows that a line tells.
-fn rows_of(text: &[u8]) -> Result<usize, LineFault> {
-    let Some(digits) = text.strip_prefix(b"rows ") else {
-        return Err(LineFault::NoRows);
-    };
-    match decimal(digits) {
-        Some(n) if n <= MOST_ROWS => Ok(n as usize),
-        _ => Err(LineFault::NoRows),
-    }
-}
-
-// The text of a line without the byte that closes it, if that is there.
-fn closed(line: &[u8]) -> Option<&[u8]> {
-    match line.split_last() {
-        Some((last, text)) if *last == LINE_END => Some(text),
-        _ => None,
+    match text {
+        "verdict" => Ok(Step::Verdict),
+        "wipe" => Ok(Step::Wipe),
+        _ => Err(LineFault::NoCall),
     }
 }
 
 // The table of the sheet behind `rig`, which is to settle or not as the first one.
 fn rig_of(sheet: &[u8], first: &BankTable) -> Result<Step, LineFault> {
-    let Ok(read) = read_sheet(sheet) else {
-        return Err(LineFault::BadSheet);
-    };
-    let table = BankTable::of_sheet(&read);
-    if (table.settle() == 0) == (first.settle() == 0) {
-        Ok(Step::Rig(table))
-    } else {
-        Err(LineFault::OtherKind)
+    let sheet = read_sheet(sheet).map_err(|_| LineFault::BadSheet)?;
+    let table = BankTable::of_sheet(&sheet);
+    if (table.settle() == 0) != (first.settle() == 0) {
+        return Err(LineFault::OtherKind);
+    }
+    Ok(Step::Rig(table))
+}
+
+// What a line asks for; the sheet behind `rig` is cut off from the lines behind it.
+fn read_step(line: &[u8], lines: &mut Lines, first: &BankTable) -> Result<Step, LineFault>
+    ensures { length lines.new.rest.now ≤ length lines.old.rest.now }
+{
+    match closed(line).ok_or(LineFault::NoCall)? {
+        "rig" => rig_of(lines.cut_through(SHEET_END), first),
+        text => step_of(text),
     }
 }
 
 // What the lines from here on ask for.
 fn read_steps(
     heap: Global,
-    bytes: &[u8],
-    from: usize,
+    lines: &mut Lines,
     first: &BankTable,
-) -> Result<Vec<Step>, ScriptFault>
-    requires { from ≤ length bytes.now }
-{
+) -> Result<Vec<Step>, ScriptFault> {
     let mut steps = Vec::new(heap);
-    let mut line = count_lines(&bytes[0..from]).saturating_add(1);
-    let mut at = from;
-    while at < bytes.len() {
-        let began = at;
-        let end = line_end(bytes, at);
-        let Some(text) = closed(&bytes[at..end]) else {
-            return Err(ScriptFault::Line {
-                line,
-                what: LineFault::NoCall,
-            });
-        };
-        at = end;
-        let read = if text == b"rig".as_slice() {
-            at = end_with(bytes, end, b"04");
-            rig_of(&bytes[end..at], first)
-        } else {
-            step_of(text)
-        };
-        match read {
-            Ok(step) => steps.push(step)?,
-            Err(what) => return Err(ScriptFault::Line { line, what }),
-        }
-        line = line.saturating_add(count_lines(&bytes[began..at]));
+    let mut number = lines.number();
+    while let Some(line) = lines.cut_line() {
+        let step = read_step(line, lines, first);
+        steps.push(step.map_err(|what| ScriptFault::Line { line: number, what })?)?;
+        number = lines.number();
     }
     Ok(steps)
 }
 
-// The line with the number of rows, which begins here.
-fn read_rows(bytes: &[u8], from: usize) -> Result<usize, LineFault>
-    requires { from ≤ length bytes.now }
-{
-    if from == bytes.len() {
-        return Err(LineFault::NoRows);
-    }
-    match closed(&bytes[from..line_end(bytes, from)]) {
-        Some(text) => rows_of(text),
-        None => Err(LineFault::NoRows),
-    }
+// The number of rows, from the line that tells it.
+fn read_rows(lines: &mut Lines) -> Result<usize, LineFault> {
+    let text = lines.cut_line().and_then(closed);
+    let digits = text.and_then(|text| text.strip_prefix("rows "));
+    let rows = number_within(digits.ok_or(LineFault::NoRows)?, MOST_ROWS).map_err(
+        |_| LineFault::NoRows,
+    )?;
+    Ok(rows as usize)
 }
 
 // Reads a script.
 pub(crate) fn read_script(heap: Global, bytes: &[u8]) -> Result<Script, ScriptFault> {
-    let from = end_with(bytes, 0, b"04");
-    let sheet = match read_sheet(&bytes[0..from]) {
-        Ok(sheet) => sheet,
-        Err(fault) => return Err(ScriptFault::Sheet(fault)),
-    };
+    let mut lines = Lines::new(bytes);
+    let sheet = read_sheet(lines.cut_through(SHEET_END)).map_err(ScriptFault::Sheet)?;
     let table = BankTable::of_sheet(&sheet);
-    let rows = match read_rows(bytes, from) {
-        Ok(rows) => rows,
-        Err(what) => {
-            let line = count_lines(&bytes[0..from]).saturating_add(1);
-            return Err(ScriptFault::Line { line, what });
-        }
-    };
-    let calls = if from < bytes.len() {
-        line_end(bytes, from)
-    } else {
-        from
-    };
-    let steps = read_steps(heap, bytes, calls, &table)?;
+    let line = lines.number();
+    let rows = read_rows(&mut lines).map_err(|what| ScriptFault::Line { line, what })?;
+    let steps = read_steps(heap, &mut lines, &table)?;
     Ok(Script { table, rows, steps })
 }
