@@ -26,6 +26,7 @@ use Rattle.rounds.specs.Stored.{round_text, last_line, IsStored, LinesRead, EndF
 use Rattle.rounds.specs.Stored.EndFault.{unlawful, after_end}
 use Rattle.rounds.specs.Stored.FirstFault.{in_table, in_list, at_end}
 use Rattle.rounds.specs.Parts.{part_size, part_line, part, part_lines, parts_of, part_due, bad_bank, part_column, OnlyBanks, PartsFault}
+use Rattle.rounds.proofs.PartLines.{length_pairs}
 
 -- numbers that two digits can write
 abbrev Small : List ℕ → Type 0
@@ -33,10 +34,6 @@ Small xs = (k : ℕ) → k < length xs → get_or xs k 0 < 256
 
 small_tail : (x : ℕ) (xs : List ℕ) → Small (x ∷ xs) → Small xs
 small_tail x xs h k l = h (suc k) (omega arith)
-
-length_pairs : (xs : List ℕ) → length (flat_map (numeral 2) xs) ≡ 2 * length xs
-length_pairs [] = refl
-length_pairs (x ∷ xs) = length-append (numeral 2 x) (flat_map (numeral 2) xs) ∙ (omega (arith, length_pairs xs))
 
 pairs_digits : (xs : List ℕ) → AllDigits (flat_map (numeral 2) xs)
 pairs_digits [] = all_none

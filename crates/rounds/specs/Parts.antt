@@ -1,7 +1,8 @@
 -- The list of a stored round, in parts: one line for each sixteen banks.
-use Rattle.std.specs.Prelude.{◌≡◌, ℕ, zero, suc, ◌+◌, ◌-◌, ◌*◌, ◌/◌, ◌<◌, ◌≤◌, min, cond, List, [], ◌∷◌, ◌++◌, length, take, drop, ◌==◌, nat_lt, slice_index}
+use Rattle.std.specs.Prelude.{◌≡◌, ℕ, zero, suc, ◌+◌, ◌-◌, ◌*◌, ◌/◌, ◌<◌, min, cond, List, [], ◌∷◌, ◌++◌, length, take, drop, ◌==◌, nat_lt, slice_index}
 use Rattle.std.specs.List.{flat_map}
 use Rattle.refusals.specs.declared.Refusal.{Refusal}
+use Rattle.frames.specs.declared.unread.Unread.{Unread}
 use Rattle.frames.specs.Digits.{numeral, value}
 use Rattle.frames.specs.BadLines.{field, BadLine}
 
@@ -48,11 +49,21 @@ pub record PartsRead (banks : ℕ) (bytes xs rest : List ℕ) : Type 0 where
   pub only : OnlyBanks banks xs
   pub text : bytes ≡ part_lines xs (parts_of (length xs)) ++ rest
 
--- The same of a list that stands in the first places of some room; its lines end at this place of the bytes.
-pub record ListRead (banks : ℕ) (bytes : List ℕ) (dwells : ℕ) (room : List ℕ) (end : ℕ) : Type 0 where
-  pub within : end ≤ length bytes
-  pub fits : length (take dwells room) ≡ dwells
-  pub read : PartsRead banks bytes (take dwells room) (drop end bytes)
+-- Two digits of the bytes for each of these banks, which are put behind a list.
+pub record BanksPut (banks : ℕ) (digits before after : List ℕ) : Type 0 where
+  pub put : List ℕ
+  pub behind : after ≡ before ++ put
+  pub only : OnlyBanks banks put
+  pub text : digits ≡ flat_map (numeral 2) put
+
+-- The next line is a part with as many banks as are due, and they are put behind a list.
+pub record PartPut (banks due : ℕ) (from : Unread) (before : List ℕ) (to : Unread) (after : List ℕ) : Type 0 where
+  pub put : List ℕ
+  pub behind : after ≡ before ++ put
+  pub long : length put ≡ due
+  pub only : OnlyBanks banks put
+  pub text : from.rest.now ≡ part_line put ++ to.rest.now
+  pub line : to.line ≡ from.line + 1
 
 -- The refusal tells the first bad line of the list: n full parts are good, more dwells are announced, and the next line is bad.
 pub record PartsFault (banks dwells : ℕ) (bytes : List ℕ) (r : Refusal) : Type 0 where

@@ -1,5 +1,5 @@
 -- What a round record holds, and when a list is refused.
-use Rattle.std.specs.Prelude.{◌≡◌, ℕ, ◌<◌, ◌≤◌, List, length, take}
+use Rattle.std.specs.Prelude.{◌≡◌, ℕ, ◌<◌, ◌≤◌, List, length}
 use Rattle.refusals.specs.declared.Refusal.{Refusal}
 use Rattle.refusals.specs.Numbers.{no_move}
 use Rattle.rig.specs.Orders.{LawfulForEver, again}
@@ -12,7 +12,7 @@ use Rattle.banks.specs.Stored.{most_dwells}
 
 -- the banks of the lap, in their order
 abbrev pub list_of : RoundRecord → List ℕ
-list_of r = take r.dwells r.banks
+list_of r = r.list.items
 
 -- The record holds exactly this table and this list.
 pub record Holds (r : RoundRecord) (t : BankTable) (xs : List ℕ) : Type 0 where

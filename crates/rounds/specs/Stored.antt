@@ -2,8 +2,6 @@
 use Rattle.std.specs.Prelude.{◌≡◌, ℕ, ◌+◌, ◌<◌, ◌≤◌, List, ◌++◌, length}
 use Rattle.refusals.specs.declared.Refusal.{Refusal}
 use Rattle.refusals.specs.Numbers.{bad_end, not_lawful_in_file}
-use Rattle.rig.specs.declared.check.Unfit.{Unfit}
-use Rattle.rig.specs.declared.check.Unfit.TheVariants.{NoMove, Unlawful}
 use Rattle.frames.specs.declared.faults.FileFault.{FileFault}
 use Rattle.frames.specs.declared.faults.FileFault.TheVariants.{Unlawful as InFile}
 use Rattle.rig.specs.Orders.{LawfulForEver}
@@ -43,15 +41,9 @@ pub record SomeRegular (bytes : List ℕ) : Type 0 where
   pub keeps : KeepsGaps table list
   pub text : bytes ≡ round_text table list
 
--- The reply of the checker tells of an unlawful move.
-abbrev pub HasUnlawful : Unfit → Type 0
-HasUnlawful (NoMove p) = ⊥
-HasUnlawful (Unlawful lap p) = Unit {0}
-
--- The fault tells the same at this line.
-abbrev pub ToldAt : ℕ → Unfit → FileFault → Type 0
-ToldAt line (NoMove p) f = ⊥
-ToldAt line (Unlawful lap p) f = f ≡ InFile line lap p
+-- the fault that tells the lap and the position of a refusal at this line
+abbrev pub in_file_at : ℕ → Refusal → FileFault
+in_file_at line r = InFile line r.lap r.position
 
 -- A list whose lines were read is lawful for ever, and nothing comes behind them.
 pub record Ended (t : BankTable) (xs rest : List ℕ) : Type 0 where

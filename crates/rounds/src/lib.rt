@@ -5,5 +5,6 @@ mod parts;
 mod record;
 mod stored;
 
+pub use parts::PART_SIZE;
 pub use record::RoundRecord;
 pub use stored::read_round;

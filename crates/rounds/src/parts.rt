@@ -1,105 +1,70 @@
 // Reads the list of a stored round: its lines behind those of the bank table.
-ghost use Rattle.std.specs.Prelude.{◌≡◌, ℕ, ◌+◌, ◌*◌, ◌<◌, ◌≤◌, min, ◌++◌, length, MatchResult, slice_index};
+ghost use Rattle.std.specs.Prelude.{◌≡◌, ◌+◌, ◌*◌, ◌/◌, ◌%◌, ◌≤◌, length, MatchResult};
 ghost use Rattle.frames.specs.Digits.{AllDigits};
 ghost use Rattle.frames.specs.Faults.{file_told};
-ghost use Rattle.frames.specs.BadLines.{BadLine, field};
+ghost use Rattle.frames.specs.BadLines.{BadLine};
+ghost use Rattle.frames.specs.Fields.{ToldColumn};
 ghost use Rattle.banks.specs.Stored.{most_dwells};
-ghost use Rattle.rounds.specs.Parts.{part_size};
-ghost use Rattle.rounds.specs.Parts.{part_line, bad_bank, part_column, OnlyBanks, PartsRead, PartsFault};
+ghost use Rattle.rounds.specs.Parts.{part_size, parts_of, bad_bank, part_column, BanksPut, PartPut, PartsRead, PartsFault};
 
-use frames::{FileFault, Frame, next_frame, number_at};
+use crate::record::Lap;
+use frames::{Field, FileFault, Frame, Unread, number, read_fields};
 
 // The most dwells of one line.
-pub(crate) const PART_SIZE: usize = 16;
+pub const PART_SIZE: usize = 16;
 
-// The column of the first of `due` banks that is no bank of the table, or 0.
-fn bad_bank(digits: &[u8], banks: u8, due: usize) -> u32
+// The column of the first bank of a line.
+const FIRST_BANK: u32 = 5;
+
+// Puts the banks that the digits tell, two for each, behind the list; each of them is to be one of the table.
+fn put_banks(digits: &[u8], line: u32, banks: u8, list: &mut Lap) -> Result<(), FileFault>
     requires digits { AllDigits digits.now }
-    requires size { length digits.now ≡ 2 * due }
-    requires few { due ≤ 16 }
-    ensures { result ≡ bad_bank banks due 5 digits.now }
+    requires pairs { length digits.now % 2 ≡ 0 }
+    requires few { length digits.now ≤ 2 * part_size }
+    requires room { length list.old.items + length digits.now / 2 ≤ most_dwells }
+    ensures { MatchResult result (λ _. BanksPut banks digits.now list.old.items list.new.items) (λ e. ToldColumn (bad_bank banks (length digits.now / 2) 5 digits.now) line e) }
 {
-    for k in 0..due {
-        if number_at(digits, 2 * k, 2) >= banks as u32 {
-            return 5 + 2 * k as u32;
+    for (k, two) in digits.chunks_exact(2).enumerate() {
+        let bank = number(two);
+        if bank >= u32::from(banks) {
+            let column = FIRST_BANK + 2 * k as u32;
+            return Err(FileFault::Field { line, column });
         }
+        list.push(bank as u8);
     }
-    0
+    Ok(())
 }
 
-// The column of the first field of a part that is outside its limits, or 0.
-fn part_column(body: &[u8], banks: u8, due: usize) -> u32
-    requires digits { AllDigits body.now }
-    requires size { length body.now ≡ 2 + 2 * field 0 2 body.now }
-    requires few { due ≤ 16 }
-    ensures { result ≡ part_column banks due body.now }
+// Reads one line of the list: puts as many banks as are due behind the list.
+fn read_part(lines: &mut Unread, banks: u8, due: u32, list: &mut Lap) -> Result<(), FileFault>
+    requires few { due ≤ part_size }
+    requires room { length list.old.items + due ≤ most_dwells }
+    ensures { MatchResult result (λ _. PartPut banks due lines.old list.old.items lines.new list.new.items) (λ e. BadLine 19 (part_column banks due) lines.old.rest.now lines.old.line (file_told e)) }
 {
-    if number_at(body, 0, 2) as usize != due {
-        return 3;
-    }
-    bad_bank(&body[2..], banks, due)
-}
-
-// Puts the numbers of the banks into their places.
-fn put_banks(digits: &[u8], into: &mut [u8])
-    requires digits { AllDigits digits.now }
-    requires size { length digits.now ≡ 2 * length into.old }
-    ensures { (k : ℕ) → k < length into.new → slice_index into.new k ≡ field (2 * k) 2 digits.now }
-{
-    for k in 0..into.len() {
-        into[k] = number_at(digits, 2 * k, 2) as u8;
-    }
-}
-
-// One line of the list: as many banks as `into` has places.
-fn read_part<'a>(
-    rest: &'a [u8],
-    line: u32,
-    banks: u8,
-    into: &mut [u8],
-) -> Result<&'a [u8], FileFault>
-    requires size { length rest.now ≤ 65536 }
-    requires few { length into.old ≤ 16 }
-    ensures { MatchResult result (λ after. OnlyBanks banks into.new × (rest.now ≡ part_line into.new ++ after.now)) (λ e. BadLine 19 (part_column banks (length into.old)) rest.now line (file_told e)) }
-{
-    let (frame, after) = next_frame(rest, line)?;
-    let Frame::RoundPart(body) = frame else {
+    let line = lines.line();
+    let Frame::RoundPart(body) = lines.next_frame()? else {
         return Err(FileFault::Misplaced { line });
     };
-    let column = part_column(body, banks, into.len());
-    if column > 0 {
-        return Err(FileFault::Field { line, column });
-    }
-    put_banks(&body[2..], into);
-    Ok(after)
+    let count = Field {
+        place: 0,
+        width: 2,
+        low: due,
+        high: due,
+    };
+    read_fields(body, line, &[count])?;
+    put_banks(&body[2..], line, banks, list)
 }
 
-// Where part n ends, in a list of so many dwells.
-fn part_end(dwells: usize, at: usize) -> usize
-    requires at_lt_dwells { at < dwells }
-    requires dwells_le_most_dwells { dwells ≤ most_dwells }
-    ensures { result ≡ min dwells (at + part_size) }
+// Reads all lines of the list, which announce so many dwells.
+pub(crate) fn read_parts(lines: &mut Unread, banks: u8, dwells: usize) -> Result<Lap, FileFault>
+    requires few { dwells ≤ most_dwells }
+    requires behind { lines.old.line ≡ 2 + banks }
+    ensures { MatchResult result (λ xs. (length xs.items ≡ dwells) × PartsRead banks lines.old.rest.now xs.items lines.new.rest.now × (lines.new.line ≡ (2 + banks) + parts_of dwells)) (λ e. PartsFault banks dwells lines.old.rest.now (file_told e)) }
 {
-    dwells.min(at + PART_SIZE)
-}
-
-// All lines of the list: `into` has a place for each dwell that is announced.
-pub(crate) fn read_parts<'a>(
-    rest: &'a [u8],
-    banks: u8,
-    into: &mut [u8],
-) -> Result<&'a [u8], FileFault>
-    requires size { length rest.now ≤ 65536 }
-    requires few { length into.old ≤ most_dwells }
-    ensures { MatchResult result (λ after. PartsRead banks rest.now into.new after.now) (λ e. PartsFault banks (length into.old) rest.now (file_told e)) }
-{
-    let mut left = rest;
-    let dwells = into.len();
-    let parts = (dwells + PART_SIZE - 1) / PART_SIZE;
-    for n in 0..parts {
-        let at = PART_SIZE * n;
-        let end = part_end(dwells, at);
-        left = read_part(left, 2 + banks as u32 + n as u32, banks, &mut into[at..end])?;
+    let mut list = Lap::new();
+    while list.len() < dwells {
+        let due = PART_SIZE.min(dwells - list.len());
+        read_part(lines, banks, due as u32, &mut list)?;
     }
-    Ok(left)
+    Ok(list)
 }

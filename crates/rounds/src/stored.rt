@@ -1,86 +1,61 @@
 // Reads a stored round.
-ghost use Rattle.std.specs.Prelude.{◌≡◌, ℕ, ◌+◌, ◌≤◌, length, is_ok, Decides, MatchResult};
-ghost use Rattle.rig.specs.Checks.{OnlyMoves};
+ghost use Rattle.std.specs.Prelude.{◌≡◌, ◌+◌, length, drop, is_ok, Decides, MatchResult};
+ghost use Rattle.rig.specs.Checks.{OnlyMoves, told};
 ghost use Rattle.frames.specs.Faults.{file_told};
-ghost use Rattle.frames.specs.Lines.{most_bytes};
-ghost use Rattle.banks.specs.Stored.{most_dwells};
-ghost use Rattle.rounds.specs.Parts.{ListRead, PartsFault};
+ghost use Rattle.banks.specs.Stored.{TableRead};
 ghost use Rattle.rounds.specs.Record.{Holds, list_of};
-ghost use Rattle.rounds.specs.Stored.{IsStored, SomeStored, SomeRegular, OnlyRound, FirstFault, OnlyFault, last_line, HasUnlawful, ToldAt, Ended, EndFault};
+ghost use Rattle.rounds.specs.Stored.{IsStored, SomeStored, SomeRegular, OnlyRound, FirstFault, OnlyFault, last_line, in_file_at, Ended, EndFault};
 
-use crate::parts::{PART_SIZE, read_parts};
-use crate::record::RoundRecord;
-use banks::{BankTable, MOST_DWELLS, read_table};
-use frames::FileFault;
+use crate::parts::read_parts;
+use crate::record::{Lap, RoundRecord};
+use banks::{BankTable, StoredTable, read_table};
+use frames::{FileFault, Unread};
 use readers::PanelledReader;
 use rig::{Unfit, check_list};
 
-// The number of the last line: behind the head and a line for each bank come the lines of the list.
-fn last_line(table: &BankTable, dwells: usize) -> u32
-    requires { dwells ≤ most_dwells }
-    ensures { result ≡ last_line table.now dwells }
+// The lines behind those of a table that was read: a head line, and a line for each bank. They are passed once more, to be counted.
+fn behind_table<'a>(bytes: &'a [u8], stored: &StoredTable) -> Result<Unread<'a>, FileFault>
+    requires { TableRead bytes.now stored.now.table stored.now.dwells (drop stored.now.end bytes.now) }
+    ensures { MatchResult result (λ u. (u.rest.now ≡ drop stored.now.end bytes.now) × (u.line ≡ 2 + stored.now.table.count)) (λ e. ⊥) }
 {
-    let parts = (dwells + PART_SIZE - 1) / PART_SIZE;
-    1 + table.count() as u32 + parts as u32
+    let mut lines = Unread::of(bytes)?;
+    for _ in 0..1 + stored.table.count() {
+        lines.next_frame()?;
+    }
+    Ok(lines)
 }
 
-// The fault of a list with an unlawful move, told at this line.
+// The fault of a list that is refused, told at this line.
 fn unlawful_at(line: u32, unfit: Unfit) -> FileFault
-    requires { HasUnlawful unfit }
-    ensures { ToldAt line unfit result }
+    ensures { result ≡ in_file_at line (told unfit) }
 {
-    match unfit {
-        Unfit::Unlawful { lap, position } => FileFault::Unlawful {
-            line,
-            lap,
-            position,
-        },
-        Unfit::NoMove { .. } => unreachable(),
+    let told = unfit.told();
+    FileFault::Unlawful {
+        line,
+        lap: told.lap,
+        position: told.position,
     }
 }
 
 // All lines are good: checks the list, and that nothing comes behind them, and puts the round into the record.
 fn finish(
     table: BankTable,
-    list: &[u8],
-    rest: &[u8],
+    list: Lap,
+    lines: &Unread,
     target: &mut RoundRecord,
 ) -> Result<(), FileFault>
-    requires few { length list.now ≤ most_dwells }
-    requires moves { OnlyMoves table.count list.now }
-    ensures { MatchResult result (λ _. Ended table list.now rest.now × Holds target.new table list.now) (λ e. EndFault table list.now rest.now (file_told e) × (target.new ≡ target.old)) }
+    requires moves { OnlyMoves table.count list.items }
+    requires behind { lines.now.line ≡ last_line table (length list.items) + 1 }
+    ensures { MatchResult result (λ _. Ended table list.items lines.now.rest.now × Holds target.new table list.items) (λ e. EndFault table list.items lines.now.rest.now (file_told e) × (target.new ≡ target.old)) }
 {
-    let line = last_line(&table, list.len());
+    let line = lines.line();
     let reader = PanelledReader::new(table);
-    if let Err(unfit) = check_list(&reader, list) {
-        return Err(unlawful_at(line, unfit));
-    }
-    if !rest.is_empty() {
-        return Err(FileFault::AfterEnd { line: line + 1 });
+    check_list(&reader, &list).map_err(|unfit| unlawful_at(line - 1, unfit))?;
+    if !lines.rest().is_empty() {
+        return Err(FileFault::AfterEnd { line });
     }
     target.hold(table, list);
     Ok(())
-}
-
-// A list that was read: its banks stand in front, and `end` is where its lines end.
-#[derive(Clone, Copy)]
-struct StoredList {
-    banks: [u8; MOST_DWELLS],
-    end: usize,
-}
-
-// The list of so many dwells whose lines begin here.
-fn read_list(bytes: &[u8], banks: u8, dwells: usize) -> Result<StoredList, FileFault>
-    requires size { length bytes.now ≤ most_bytes }
-    requires few { dwells ≤ most_dwells }
-    ensures { MatchResult result (λ p. ListRead banks bytes.now dwells p.banks p.end) (λ e. PartsFault banks dwells bytes.now (file_told e)) }
-{
-    let mut room = [0u8; MOST_DWELLS];
-    let rest = read_parts(bytes, banks, &mut room[0..dwells])?;
-    Ok(StoredList {
-        banks: room,
-        end: bytes.len() - rest.len(),
-    })
 }
 
 // Reads a stored round into the record; a refusal leaves the record as it was.
@@ -91,13 +66,7 @@ pub fn read_round(bytes: &[u8], target: &mut RoundRecord) -> Result<(), FileFaul
     ensures only { MatchResult result (λ _. OnlyRound bytes.now target.new) (λ e. OnlyFault bytes.now (file_told e)) }
 {
     let stored = read_table(bytes)?;
-    let dwells = stored.dwells as usize;
-    let lines = &bytes[stored.end..];
-    let list = read_list(lines, stored.table.count(), dwells)?;
-    finish(
-        stored.table,
-        &list.banks[0..dwells],
-        &lines[list.end..],
-        target,
-    )
+    let mut lines = behind_table(bytes, &stored)?;
+    let list = read_parts(&mut lines, stored.table.count(), usize::from(stored.dwells))?;
+    finish(stored.table, list, &lines, target)
 }

@@ -1,6 +1,10 @@
-use Rattle.std.proofs.Common.{◌≡◌, ℕ, ◌*◌, ◌<◌, get_or}
-use Rattle.frames.specs.BadLines.{field}
+use Rattle.std.proofs.Common.{◌≡◌}
+use Rattle.std.specs.Slice.Iter.{chunks_exact_rest, chunks_exact_size}
+use Rattle.std.specs.Iterator.Adapters.{enumerate_source, enumerate_count}
+use Rattle.rounds.proofs.PartLines.{Putting}
 use Rattle.rounds.proofs.parts.put_banks.Given as goal
 
 abbrev pub invariant-loop-k : goal.invariant-loop-k
-invariant-loop-k l = (i : ℕ) → i < l.k → get_or l.into i 0 ≡ field (2 * i) 2 l.digits
+invariant-loop-k l =
+    let source = enumerate_source l.k-iterator in
+    (chunks_exact_size source ≡ 2) × Putting l.banks l.digits l.initial.list.items l.list.items (chunks_exact_rest source) (enumerate_count l.k-iterator)

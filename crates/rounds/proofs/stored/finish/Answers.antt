@@ -1,17 +1,18 @@
-use Rattle.std.proofs.Common.{refl, subst}
-use Rattle.rig.specs.Checks.{ListFault, told}
-use Rattle.rig.proofs.Laps.{list_says}
+use Rattle.std.proofs.Common.{ℕ, ◌-◌, List, refl, subst, rules, arith}
+use Rattle.std.proofs.lemmas.Result.{err_from_is_err_and}
+use Rattle.rig.specs.Checks.{Checked}
 use Rattle.banks.specs.declared.table.BankTable.{BankTable}
 use Rattle.readers.specs.Panelled.{panelled}
-use Rattle.rounds.proofs.Ends.{has_unlawful, end_unlawful}
+use Rattle.rounds.proofs.Ends.{end_told}
 use Rattle.rounds.proofs.stored.finish.Goals as goal
 
-pub unlawful_at-requires : goal.unlawful_at-requires
-unlawful_at-requires c =
-    has_unlawful c.args.table c.args.list.now c.in-Err.unfit c.requires.moves
-    (list_says (panelled c.args.table) c.args.list.now c.in-Err.unfit (subst (λ (t : BankTable). ListFault (panelled t) c.args.list.now (told c.in-Err.unfit)) c.new-reader.ensures c.in-Err.ensures.reply))
-
-pub returns-in-Err : goal.returns-in-Err
-returns-in-Err c =
-    let bad = list_says (panelled c.args.table) c.args.list.now c.in-Err.unfit (subst (λ (t : BankTable). ListFault (panelled t) c.args.list.now (told c.in-Err.unfit)) c.new-reader.ensures c.in-Err.ensures.reply) in
-    (end_unlawful c.args.table c.args.list.now c.args.rest.now c.last_line-line.result c.in-Err.unfit c.unlawful_at.result bad c.unlawful_at.ensures c.last_line-line.ensures, refl)
+pub returns-in_err-map_err : goal.returns-in_err-map_err
+returns-in_err-map_err c =
+    let p = err_from_is_err_and c.from_residual.result c.from_residual.ensures.1 in
+    let checked = subst (λ (t : BankTable). Checked (panelled t) c.args.list.items c.check_list.result) c.new-reader.ensures
+    (subst (λ (xs : List ℕ). Checked (panelled c.new-reader.result.table) xs c.check_list.result) c.deref.ensures.0 c.check_list.ensures.reply) in
+    rw (p.1, p.2) (
+      end_told _ _ _ c.requires.moves _ (c.line-line.result - 1) c.check_list.result c.map_err.result _ checked c.map_err.ensures.cases c.in_err-map_err.was
+          (λ u told. search rules) (omega (arith, c.line-line.ensures)),
+      refl,
+    )

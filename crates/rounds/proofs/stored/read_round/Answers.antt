@@ -10,7 +10,7 @@ use Rattle.rounds.specs.Record.{Holds}
 use Rattle.rounds.specs.Stored.{IsStored, SomeStored, OnlyRound, FirstFault, OnlyFault}
 use Rattle.rounds.specs.Stored.FirstFault.{in_table, at_end}
 use Rattle.rounds.proofs.Gaps.{decides_regular}
-use Rattle.rounds.proofs.Ends.{gathered, list_fault, stored_whole, stored_held}
+use Rattle.rounds.proofs.Ends.{lines_read, list_fault, stored_whole, stored_held}
 use Rattle.rounds.proofs.OneRound.{stored_no_fault, one_round, one_first_fault}
 use Rattle.rounds.proofs.stored.read_round.Goals as goal
 
@@ -36,36 +36,32 @@ pub returns-in_err-stored : goal.returns-in_err-stored
 returns-in_err-stored c =
     let p = err_from_is_err_and c.from_residual.result c.from_residual.ensures.1 in
     let fault = in_table c.in_err-stored.ensures in
-    rw (p.1, p.2) (record { reply = (fault, refl); exact = refuted c.args.bytes.now _ fault; regular = decides_regular c.args.bytes.now false (refuted c.args.bytes.now _ fault); only = only_fault c.args.bytes.now _ fault })
+    let no = refuted c.args.bytes.now _ fault in
+    rw (p.1, p.2) (record { reply = (fault, refl); exact = no; regular = decides_regular c.args.bytes.now false no; only = only_fault c.args.bytes.now _ fault })
 
 pub returns-in_err-list : goal.returns-in_err-list
 returns-in_err-list c =
     let p = err_from_is_err_and c.from_residual-in_err-list.result c.from_residual-in_err-list.ensures.1 in
-    let s = c.in_ok-stored.stored in
-    let fault = list_fault c.args.bytes.now s.table s.dwells s.end _ c.count.result _ c.in_ok-stored.ensures.1 c.count.ensures refl c.in_err-list.ensures in
-    rw (p.1, p.2) (record { reply = (fault, refl); exact = refuted c.args.bytes.now _ fault; regular = decides_regular c.args.bytes.now false (refuted c.args.bytes.now _ fault); only = only_fault c.args.bytes.now _ fault })
-
-pub finish-requires : goal.finish-requires
-finish-requires c =
-    let s = c.in_ok-stored.stored in
-    let g = gathered c.args.bytes.now s.table s.dwells s.end _ c.count.result c.in_ok-list.list.banks c.in_ok-list.list.end c.in_ok-stored.ensures.1 c.count.ensures refl c.in_ok-list.ensures in
-    record { few = g.lines.few; moves = g.moves }
+    let fault = list_fault c.args.bytes.now _ _ _ c.in_ok-stored.ensures.1 _ c.in_ok-lines.ensures.0 _ _ c.count.ensures c.from.ensures _ c.in_err-list.ensures in
+    let no = refuted c.args.bytes.now _ fault in
+    rw (p.1, p.2) (record { reply = (fault, refl); exact = no; regular = decides_regular c.args.bytes.now false no; only = only_fault c.args.bytes.now _ fault })
 
 pub returns : goal.returns
 returns c =
-    let s = c.in_ok-stored.stored in
     let bytes = c.args.bytes.now in
-    let g = gathered bytes s.table s.dwells s.end _ c.count.result c.in_ok-list.list.banks c.in_ok-list.list.end c.in_ok-stored.ensures.1 c.count.ensures refl c.in_ok-list.ensures in
+    let t = c.in_ok-stored.stored.table in
+    let list = c.in_ok-list.ensures in
+    let lines = lines_read bytes _ _ _ c.in_ok-stored.ensures.1 _ c.in_ok-lines.ensures.0 _ _ (list.0 ∙ c.from.ensures) list.1.text in
     let exact : Decides (is_ok c.finish.result) (SomeStored bytes) = decided bytes c.finish.result (MatchResult-weaker c.finish.result c.finish.ensures
-    (λ x h. record { table = s.table; list = _; stored = stored_whole bytes s.table _ _ g.lines h.0 })
-    (λ e h. at_end s.table _ _ g.lines h.0)) in
+    (λ x h. record { table = t; list = _; stored = stored_whole bytes t _ _ lines h.0 })
+    (λ e h. at_end t _ _ lines h.0)) in
     record {
       reply = MatchResult-weaker c.finish.result c.finish.ensures
-          (λ x h. stored_held bytes s.table _ _ (stored_whole bytes s.table _ _ g.lines h.0) h.1)
-          (λ e h. (at_end s.table _ _ g.lines h.0, h.1));
+          (λ x h. stored_held bytes t _ _ (stored_whole bytes t _ _ lines h.0) h.1)
+          (λ e h. (at_end t _ _ lines h.0, h.1));
       exact = exact;
       regular = decides_regular bytes (is_ok c.finish.result) exact;
       only = MatchResult-weaker c.finish.result c.finish.ensures
-          (λ x h. only_round bytes s.table _ _ (stored_whole bytes s.table _ _ g.lines h.0) h.1)
-          (λ e h. only_fault bytes _ (at_end s.table _ _ g.lines h.0));
+          (λ x h. only_round bytes t _ _ (stored_whole bytes t _ _ lines h.0) h.1)
+          (λ e h. only_fault bytes _ (at_end t _ _ lines h.0));
     }
