@@ -6,7 +6,7 @@ use rig::GuidedRig;
 use search::{Call, Reply, Row, Uncopied, run_calls};
 use std::{fmt, io, slice};
 
-// A reader that is made of a bank table.
+// A reader that is made of a bank table. No `From`, since reader and table are both of other crates.
 trait TableReader: GuidedRig {
     fn of_table(table: BankTable) -> Self;
 }
@@ -63,18 +63,20 @@ struct CopyReply<'a> {
 
 impl fmt::Display for CopyReply<'_> {
     fn fmt<W: fmt::Write>(&self, f: &mut fmt::Formatter<W>) -> fmt::Result {
-        match self.reply {
+        let why = match self.reply {
             Reply::Copied { length } => {
                 write!(f, "{length}")?;
                 for bank in self.buffer.iter().take(length) {
                     write!(f, " {bank}")?;
                 }
-                Ok(())
+                return Ok(());
             }
-            Reply::Refused {
-                why: Uncopied::Short { needed },
-            } => write!(f, "refused 9 {needed}"),
-            _ => write!(f, "refused 8"),
+            Reply::Refused { why } => why,
+            _ => Uncopied::NoRound,
+        };
+        match why {
+            Uncopied::NoRound => write!(f, "refused {}", why.told().number),
+            Uncopied::Short { needed } => write!(f, "refused {} {needed}", why.told().number),
         }
     }
 }

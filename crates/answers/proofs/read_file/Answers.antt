@@ -9,5 +9,5 @@ front (Some bytes) n old got e h = rw e at h
 
 pub returns : goal.returns
 returns g c =
-    front (g.R.Read.remaining c.args.input) _ _ _ c.new-file.ensures.items
+    front (g.R.Read.remaining c.args.input) 65537 _ _ c.new-file.ensures.items
     (rw (c.take.ensures.limit, c.take.ensures.inner) at c.in_ok-read_to_end.ensures.bytes)
