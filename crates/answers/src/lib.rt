@@ -63,3 +63,19 @@ pub fn print_refusal<S: Display + Drop>(
 ) -> io::Result<()> {
     println!(rt; "{told}\n{sentence}")
 }
+
+#[cfg(test)]
+mod tests {
+    use super::*;
+
+    // A file is taken whole, and of one that is too long one byte over the limit.
+    #[test]
+    fn files_are_taken(rt: HostRuntime) -> io::Result<()> {
+        let short = read_file(rt.alloc(), b"0102".as_slice())?;
+        assert!(rt; short.as_slice() == b"0102".as_slice());
+        let bytes = vec![in rt.alloc(); 0u8; 65540]?;
+        let long = read_file(rt.alloc(), bytes.as_slice())?;
+        assert_eq!(rt; long.len(), 65537);
+        Ok(())
+    }
+}
