@@ -5,6 +5,7 @@ use Rattle.std.specs.Iterator.{AlwaysYields}
 use Rattle.std.specs.declared.slice.Chunks.{Chunks}
 use Rattle.std.specs.Slice.Iter.{chunks_rest, chunks_size, chunks_steps}
 use Rattle.std.proofs.lemmas.Iterator.{YieldsList}
+use Rattle.std.proofs.lemmas.List.Folds.{flat_map-map}
 use Rattle.std.proofs.lemmas.List.FromFn.{map-range_with_len_more}
 use Rattle.std.proofs.lemmas.List.{map-append, append-nil, length-append, length-take, length-drop, take_all, take_at, drop_all, drop_at, drop-drop, nil_from_length}
 use Rattle.std.proofs.lemmas.Bool.{cases_lt}
@@ -16,7 +17,7 @@ use Rattle.banks.specs.Stored.{bank_line, bank_lines}
 use Rattle.rounds.specs.Parts.{part_size, part_line, part, part_lines, parts_of}
 use Rattle.rounds.specs.Stored.{round_text}
 use Rattle.listings.specs.declared.fields.Field.{Field}
-use Rattle.listings.specs.Texts.{fields_text, line_text}
+use Rattle.listings.specs.Texts.{field_text, line_text}
 use Rattle.listings.specs.declared.lines.BankLine.{BankLine}
 use Rattle.listings.proofs.Puts.{joined_next}
 
@@ -54,12 +55,8 @@ part_head xs = record { 0 = 2; 1 = 19 } ∷ record { 0 = 2; 1 = length xs } ∷ 
 abbrev pub two_digits : ℕ → Field
 two_digits b = record { 0 = 2; 1 = b }
 
-pub numbers_text : (xs : List ℕ) → fields_text (map two_digits xs) ≡ flat_map (numeral 2) xs
-numbers_text [] = refl
-numbers_text (x ∷ xs) = ap (λ (t : List ℕ). numeral 2 x ++ t) (numbers_text xs)
-
 pub part_text : (xs : List ℕ) → line_text (part_head xs ++ map two_digits xs) ≡ part_line xs
-part_text xs = ap (λ (t : List ℕ). numeral 2 19 ++ (numeral 2 (length xs) ++ (t ++ 10 ∷ []))) (numbers_text xs)
+part_text xs = ap (λ (t : List ℕ). numeral 2 19 ++ (numeral 2 (length xs) ++ (t ++ 10 ∷ []))) (flat_map-map field_text two_digits xs)
 
 -- the lines of the banks below n, one for each number
 pub banks_text : (bs : List Bank) (n : ℕ) → flat_map (λ (l : BankLine). bank_line l.0 l.1) (map (numbered bs) (range_with_len 0 n)) ≡ bank_lines bs n

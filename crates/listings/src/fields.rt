@@ -14,6 +14,7 @@ use frames::LINE_END;
 pub(crate) struct Field(pub(crate) usize, pub(crate) usize);
 
 // The byte of a digit.
+#[tactic(auto, using(std::proofs::lemmas::Bool::Decides::nat_tests), unfolding(frames::specs::Digits::digit))]
 fn digit(v: u8) -> u8
     requires { v < 16 }
     ensures { result ≡ digit v }

@@ -131,7 +131,7 @@ impl Listing for StoredRound<'_> {
     fn needed(&self) -> usize {
         let banks = self.table.count() as usize;
         let dwells = self.list.len();
-        let parts = (dwells + PART_SIZE - 1) / PART_SIZE;
+        let parts = dwells.div_ceil(PART_SIZE);
         HEAD_LENGTH + BANK_LENGTH * banks + PART_LENGTH * parts + DWELL_LENGTH * dwells
     }
 }

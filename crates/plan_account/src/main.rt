@@ -22,10 +22,7 @@ fn main(rt: HostRuntime) -> io::Result<()> {
         ),
         Finding::Round(round) => {
             println!(rt; "verdict round after {visits} visits: this round is kept for ever")?;
-            print!(rt;
-                "{}",
-                Account { round: &round }
-            )
+            print!(rt; "{}", Account { round: &round })
         }
         Finding::Open => println!(rt;
             "verdict open after {visits} visits: the search is not finished"
