@@ -21,7 +21,7 @@ room_enough text before after (Err e) w few long = absurd (omega (arith, w.short
 
 behind_length : (f : Finding RoundRecord) → length (text_behind f) ≤ 9725
 behind_length NoRound = omega arith
-behind_length (Round r) = omega (arith, length_round r.table (list_of r), length-take r.dwells r.banks, r.few, r.table.few)
+behind_length (Round r) = omega (arith, length_round r.table (list_of r), r.few, r.table.few)
 behind_length Open = omega arith
 behind_length Full = omega arith
 

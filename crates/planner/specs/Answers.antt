@@ -1,5 +1,5 @@
 -- What a planner answers to a sheet.
-use Rattle.std.specs.Prelude.{◌≡◌, ℕ, ◌≤◌, List, [], ◌∷◌, length, take, drop, IfOk, Some, Result, ◌≢◌}
+use Rattle.std.specs.Prelude.{◌≡◌, ℕ, ◌-◌, ◌≤◌, List, [], ◌∷◌, length, replicate, take, drop, IfOk, Some, Result, ◌≢◌}
 use Rattle.refusals.specs.declared.Refusal.{Refusal}
 use Rattle.rig.specs.Meaning.{Meaning}
 use Rattle.rig.specs.Guides.{Guided}
@@ -7,6 +7,8 @@ use Rattle.rig.specs.Orders.{LawfulForEver, Order}
 use Rattle.sheets.specs.declared.sheet.Sheet.{Sheet}
 use Rattle.sheets.specs.SheetText.{FirstFault, sheet_text}
 use Rattle.banks.specs.declared.table.BankTable.{BankTable}
+use Rattle.sheets.specs.Limits.{most_banks}
+use Rattle.banks.specs.Limits.{no_bank, stock_bank}
 use Rattle.banks.specs.FromSheet.{TableOf}
 use Rattle.readers.specs.Panelled.{guided_panelled, panelled}
 use Rattle.readers.specs.Plain.{guided_plain}
@@ -34,6 +36,20 @@ plan_rows = 1024
 
 abbrev pub plan_visits : ℕ
 plan_visits = 4096
+
+-- The record of the stock round.
+pub record Stock (r : RoundRecord) : Type 0 where
+  pub count : r.table.count ≡ 2
+  pub settle : r.table.settle ≡ 0
+  pub banks : r.table.banks ≡ stock_bank ∷ stock_bank ∷ replicate (most_banks - 2) no_bank
+  pub list : list_of r ≡ 0 ∷ 1 ∷ []
+
+-- The record of the round that was found, and where none was found that of the stock round.
+abbrev pub RecordOf : Finding RoundRecord → RoundRecord → Type 0
+RecordOf (Round r) q = q ≡ r
+RecordOf NoRound q = Stock q
+RecordOf Open q = Stock q
+RecordOf Full q = Stock q
 
 -- A search of one grant over the planner's rows, on a rig of this meaning, came to this after so many visits, with everything
 -- that is promised of it; a record has the round that it found. Full: every row is taken. It is never open.

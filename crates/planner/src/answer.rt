@@ -1,7 +1,7 @@
 // The answer of the planner to a sheet: 1,024 rows and one grant of 4,096 visits.
 ghost use Rattle.std.specs.Prelude.{◌≡◌, length};
 ghost use Rattle.rig.specs.Guides.{guided};
-ghost use Rattle.planner.specs.Answers.{Answers, AnswersOn, ServesSheet, one_grant_of, plan_rows};
+ghost use Rattle.planner.specs.Answers.{Answers, AnswersOn, RecordOf, ServesSheet, one_grant_of, plan_rows};
 
 use crate::planned::{Planned, plan};
 use banks::BankTable;
@@ -22,6 +22,18 @@ pub const GRANT: u32 = 4096;
 pub struct Answer {
     pub finding: Finding<RoundRecord>,
     pub visits: u32,
+}
+
+impl Answer {
+    // The record of the round that was found; where none was found, that of the stock round.
+    pub fn into_round(self) -> RoundRecord
+        ensures { RecordOf self.finding result }
+    {
+        match self.finding {
+            Finding::Round(round) => round,
+            _ => RoundRecord::stock(),
+        }
+    }
 }
 
 // The answer that one grant over these rows gives.
