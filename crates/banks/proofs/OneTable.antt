@@ -17,7 +17,7 @@ use Rattle.banks.proofs.Identical.{same_table}
 use Rattle.frames.specs.Lines.{most_bytes}
 use Rattle.banks.specs.Stored.{head_line, bank_line, bank_lines, HeadWithin, head_column, bank_column, BankFault, TableRead, TableFault}
 use Rattle.banks.specs.Stored.TableFault.{too_long, in_head, in_bank}
-use Rattle.banks.proofs.TableLines.{HeadIs, BankIs, head_fault, bank_fault, head_column_is, bank_column_is, head_no_fault, bank_no_fault}
+use Rattle.banks.proofs.TableLines.{bank_of, HeadIs, BankIs, head_fault, bank_fault, head_column_is, bank_column_is, head_no_fault, bank_no_fault}
 
 -- One head line.
 pub record SameHead (b c s t d e : ℕ) (x y : List ℕ) : Type 0 where
@@ -41,9 +41,6 @@ one_head b c s t d e x y h k same =
     }
 
 -- One line of a bank.
-abbrev bank_of : ℕ → ℕ → ℕ → Bank
-bank_of p d g = record { panel = p; dwell = d; gap = g }
-
 pub same_bank : (b c : Bank) → b.panel ≡ c.panel → b.dwell ≡ c.dwell → b.gap ≡ c.gap → b ≡ c
 same_bank b c p d g = ap (λ n. bank_of n b.dwell b.gap) p ∙ ap (λ n. bank_of c.panel n b.gap) d ∙ ap (bank_of c.panel c.dwell) g
 

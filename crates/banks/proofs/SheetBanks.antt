@@ -1,6 +1,6 @@
 -- The banks of a sheet, one by one, and that they are within the limits of a table.
-use Rattle.std.proofs.Common.{◌≡◌, ℕ, ◌+◌, ◌<◌, ◌≤◌, ◌≢◌, List, length, set, replicate, sym, refl, ◌∙◌, subst, ⊎_elim, not-suc-le-zero, arith, length-set, below_more}
-use Rattle.std.proofs.lemmas.List.{ext_get_or, get_or-set_same, get_or-set_other}
+use Rattle.std.proofs.Common.{◌≡◌, ℕ, ◌+◌, ◌<◌, ◌≤◌, ◌≢◌, List, length, set, sym, ◌∙◌, subst, ⊎_elim, not-suc-le-zero, arith, length-set, below_more}
+use Rattle.std.proofs.lemmas.List.{ext_get_or, get_or_past, get_or-set_same, get_or-set_other}
 use Rattle.std.proofs.lemmas.Bool.{cases_lt}
 use Rattle.sheets.specs.declared.feeder.Feeder.{Feeder}
 use Rattle.sheets.specs.declared.sheet.Sheet.{Sheet}
@@ -31,24 +31,31 @@ from_within s i b h f =
       );
     }
 
--- The banks below n are those of the sheet, and the places behind them hold zeros.
+-- The first n places hold the banks of the sheet, and zeros behind the last bank.
 pub record FilledTo (s : Sheet) (banks : List Bank) (n : ℕ) : Type 0 where
   pub places : length banks ≡ most_banks
-  pub each : (i : ℕ) → i < n → FromSheet s i (bank_at banks i)
-  pub unused : (i : ℕ) → n ≤ i → Empty (bank_at banks i)
+  pub each : (i : ℕ) → i < n → i < s.count → FromSheet s i (bank_at banks i)
+  pub unused : (i : ℕ) → i < n → s.count ≤ i → Empty (bank_at banks i)
 
-pub filled_none : (s : Sheet) → FilledTo s (replicate most_banks no_bank) 0
-filled_none s = record { places = refl; each = λ i h. absurd (not-suc-le-zero h); unused = λ i h. no_bank_empty most_banks i }
+pub filled_none : (s : Sheet) (banks : List Bank) → length banks ≡ most_banks → FilledTo s banks 0
+filled_none s banks l = record { places = l; each = λ i h. absurd (not-suc-le-zero h); unused = λ i h. absurd (not-suc-le-zero h) }
 
-pub filled_more : (s : Sheet) (banks : List Bank) (n : ℕ) (b : Bank) → n < most_banks → FilledTo s banks n → FromSheet s n b → FilledTo s (set banks n b) (n + 1)
-filled_more s banks n b room f new =
+pub filled_more : (s : Sheet) (banks : List Bank) (n : ℕ) (b : Bank) → n < most_banks → FilledTo s banks n → (n < s.count → FromSheet s n b) → (s.count ≤ n → Empty b) → FilledTo s (set banks n b) (n + 1)
+filled_more s banks n b room f new none =
     let within : n < length banks = omega (arith, f.places) in
-    let other : (k : ℕ) → k ≢ n → bank_at (set banks n b) k ≡ bank_at banks k = λ k h. get_or-set_other banks n k b no_bank h in
+    let same = get_or-set_same banks n b no_bank within in
+    let other : (k : ℕ) → k < n → bank_at (set banks n b) k ≡ bank_at banks k = λ k h. get_or-set_other banks n k b no_bank (let d : k ≢ n = omega arith in d) in
     record {
       places = length-set banks n b ∙ f.places;
-      each = below_more (λ k. FromSheet s k (bank_at (set banks n b) k)) n (λ k h. subst (FromSheet s k) (sym (other k (omega arith))) (f.each k h)) (subst (FromSheet s n) (sym (get_or-set_same banks n b no_bank within)) new);
-      unused = λ k h. subst Empty (sym (other k (omega arith))) (f.unused k (omega arith));
+      each = below_more (λ k. k < s.count → FromSheet s k (bank_at (set banks n b) k)) n (λ k h l. subst (FromSheet s k) (sym (other k h)) (f.each k h l)) (λ l. subst (FromSheet s n) (sym same) (new l));
+      unused = below_more (λ k. s.count ≤ k → Empty (bank_at (set banks n b) k)) n (λ k h l. subst Empty (sym (other k h)) (f.unused k h l)) (λ l. subst Empty (sym same) (none l));
     }
+
+pub filled_all : (s : Sheet) (banks : List Bank) (n : ℕ) → most_banks ≤ n → FilledTo s banks n → ((i : ℕ) → i < s.count → FromSheet s i (bank_at banks i)) × ((i : ℕ) → s.count ≤ i → Empty (bank_at banks i))
+filled_all s banks n all f = (
+  λ i h. f.each i (let few = s.few in omega arith) h,
+  λ i h. ⊎_elim (λ b. f.unused i b h) (λ p. subst Empty (sym (get_or_past banks i no_bank (omega (arith, f.places)))) no_bank_empty) (cases_lt i n),
+)
 
 -- no value is beaten by another of those that no value beats
 one_best : (no-worse : ℕ → ℕ → Type 0) (value : Feeder → ℕ) (fs : List Feeder) (n bank a b x y : ℕ) → (no-worse a b → no-worse b a → a ≡ b) → SetBy no-worse value fs n bank a x → SetBy no-worse value fs n bank b y → a ≡ b

@@ -1,13 +1,14 @@
 -- The lines of a bank table: their fields, their limits, and the step from bank to bank.
-use Rattle.std.proofs.Common.{◌≡◌, ℕ, zero, suc, ◌+◌, ◌-◌, ◌<◌, ◌≤◌, cond, ◌≢◌, List, ◌∷◌, ◌++◌, length, drop, set, replicate, sym, refl, ap, ◌∙◌, subst, append_assoc, not-suc-le-zero, add-one, arith, length-append, Bor, below_more}
-use Rattle.std.proofs.lemmas.List.{get_or-set_same, get_or-set_other, drop_at}
+use Rattle.std.proofs.Common.{◌≡◌, ℕ, zero, suc, ◌+◌, ◌-◌, ◌<◌, ◌≤◌, cond, ◌≢◌, List, [], ◌∷◌, ◌++◌, length, get_or, take, drop, ⊎_elim, set, replicate, sym, refl, ap, ◌∙◌, subst, append_assoc, not-suc-le-zero, add-one, arith, length-append, Bor, below_more}
+use Rattle.std.proofs.lemmas.List.{get_or-set_same, get_or-set_other, get_or_append_left, get_or-append_right, get_or-take, get_or-drop, get_or_past, length-take, drop_at}
+use Rattle.std.proofs.lemmas.Bool.{cases_lt}
 use Rattle.std.proofs.lemmas.Bool.Decides.{nat_tests}
-use Rattle.frames.specs.declared.frame.Frame.TheVariants.{RoundHead, RoundBank}
-use Rattle.frames.specs.Digits.{AllDigits, numeral}
+use Rattle.frames.specs.declared.frame.Frame.TheVariants.{RoundBank}
+use Rattle.frames.specs.declared.fields.Field.{Field}
+use Rattle.frames.specs.Fields.{numbers_in, bad_column, number_in}
 use Rattle.frames.specs.Frames.{FrameRead}
-use Rattle.refusals.specs.Numbers.{bad_field}
-use Rattle.frames.specs.BadLines.{field, outside, BadLine}
-use Rattle.frames.proofs.BadLines.{field_text, last_field_text, Reads, reads_in, bad_frame, frame_text, read_digits, read_length}
+use Rattle.frames.specs.BadLines.{field, outside}
+use Rattle.frames.proofs.FieldsRead.{frame_of_numbers}
 use Rattle.banks.specs.declared.table.Bank.{Bank}
 use Rattle.banks.specs.declared.table.BankTable.{BankTable}
 use Rattle.banks.specs.Limits.{no_bank, bank_at, BankWithin, Empty, most_dwell, most_gap}
@@ -15,17 +16,12 @@ use Rattle.sheets.specs.Limits.{fewest_banks, most_banks, most_settle, most_pane
 use Rattle.frames.specs.Lines.{most_bytes}
 use Rattle.banks.specs.Stored.{most_dwells, head_line, bank_line, bank_lines, HeadWithin, head_column, bank_column, BanksRead, TableRead}
 
--- The digits of a head line and of a bank's line are their fields.
-pub head_fields : (body : List ℕ) → AllDigits body → length body ≡ 10 → body ≡ numeral 2 (field 0 2 body) ++ (numeral 4 (field 2 4 body) ++ numeral 4 (field 6 4 body))
-head_fields body t l =
-    field_text 0 2 body t (omega arith)
-    ∙ ap (λ xs. numeral 2 (field 0 2 body) ++ xs) (field_text 2 4 body t (omega arith) ∙ ap (λ xs. numeral 4 (field 2 4 body) ++ xs) (last_field_text 6 4 body t (sym l)))
+-- The fields of a head line, and of the line that is due for bank i.
+abbrev pub head_fields : List Field
+head_fields = record { place = 0; width = 2; low = 2; high = 16 } ∷ record { place = 2; width = 4; low = 0; high = 1000 } ∷ record { place = 6; width = 4; low = 1; high = 4096 } ∷ []
 
-pub bank_fields : (body : List ℕ) → AllDigits body → length body ≡ 12 → body ≡ numeral 2 (field 0 2 body) ++ (numeral 2 (field 2 2 body) ++ (numeral 4 (field 4 4 body) ++ numeral 4 (field 8 4 body)))
-bank_fields body t l =
-    field_text 0 2 body t (omega arith)
-    ∙ ap (λ xs. numeral 2 (field 0 2 body) ++ xs)
-    (field_text 2 2 body t (omega arith) ∙ ap (λ xs. numeral 2 (field 2 2 body) ++ xs) (field_text 4 4 body t (omega arith) ∙ ap (λ xs. numeral 4 (field 4 4 body) ++ xs) (last_field_text 8 4 body t (sym l))))
+abbrev pub bank_fields : ℕ → List Field
+bank_fields i = record { place = 0; width = 2; low = i; high = i } ∷ record { place = 2; width = 2; low = 0; high = 3 } ∷ record { place = 4; width = 4; low = 1; high = 1000 } ∷ record { place = 8; width = 4; low = 1; high = 65533 } ∷ []
 
 -- What the numbers of a line are, read from its digits.
 pub record HeadIs (body : List ℕ) (banks settle dwells : ℕ) : Type 0 where
@@ -58,66 +54,16 @@ bank_column_is i body at panel dwell gap column h e =
     ∙ ap (λ n. bank_fault i (field 0 2 body) (field 2 2 body) n gap) h.dwell_is
     ∙ ap (λ n. bank_fault i (field 0 2 body) (field 2 2 body) (field 4 4 body) n) h.gap_is
 
--- Where no column is told, the numbers are within their limits; and the other way round.
-pub head_within : (banks settle dwells : ℕ) → head_fault banks settle dwells ≡ 0 → HeadWithin banks settle dwells
-head_within banks settle dwells e = record {
-  enough = grind (arith, nat_tests);
-  few = grind (arith, nat_tests);
-  settles = grind (arith, nat_tests);
-  some_dwell = grind (arith, nat_tests);
-  few_dwells = grind (arith, nat_tests);
-}
-
+-- Numbers within their limits are at no fault.
 pub head_no_fault : (banks settle dwells : ℕ) → HeadWithin banks settle dwells → head_fault banks settle dwells ≡ 0
 head_no_fault banks settle dwells h =
     let a = h.enough in let b = h.few in let s = h.settles in let d = h.some_dwell in let f = h.few_dwells in
     grind (arith, nat_tests)
 
-pub record BankGood (i at panel dwell gap : ℕ) : Type 0 where
-  pub own : at ≡ i
-  pub panel_low : panel ≤ most_panel
-  pub dwell_some : 1 ≤ dwell
-  pub dwell_low : dwell ≤ most_dwell
-  pub gap_some : 1 ≤ gap
-  pub gap_low : gap ≤ most_gap
-
-pub bank_good : (i at panel dwell gap : ℕ) → bank_fault i at panel dwell gap ≡ 0 → BankGood i at panel dwell gap
-bank_good i at panel dwell gap e = record {
-  own = grind (arith, nat_tests);
-  panel_low = grind (arith, nat_tests);
-  dwell_some = grind (arith, nat_tests);
-  dwell_low = grind (arith, nat_tests);
-  gap_some = grind (arith, nat_tests);
-  gap_low = grind (arith, nat_tests);
-}
-
-pub bank_good_at : (i at panel dwell gap column : ℕ) → column ≡ bank_fault i at panel dwell gap → column ≤ 0 → BankGood i at panel dwell gap
-bank_good_at i at panel dwell gap column told none = bank_good i at panel dwell gap (sym told ∙ omega arith)
-
 pub bank_no_fault : (i : ℕ) (b : Bank) → BankWithin b → bank_fault i i b.panel b.dwell b.gap ≡ 0
 bank_no_fault i b h =
     let p = h.panel in let d = h.dwell.0 in let d' = h.dwell.1 in let g = h.gap.0 in let g' = h.gap.1 in
     grind (arith, nat_tests)
-
--- The text of a good line.
-pub head_text : (bytes body after : List ℕ) (banks settle dwells : ℕ) → bytes ≡ numeral 2 17 ++ (body ++ (10 ∷ after)) → AllDigits body → length body ≡ 10 → HeadIs body banks settle dwells → bytes ≡ head_line banks settle dwells ++ after
-head_text bytes body after banks settle dwells e t l h =
-    let f = head_fields body t l in
-    let b = h.banks_is in let s = h.settle_is in let d = h.dwells_is in
-    let g : body ≡ numeral 2 banks ++ (numeral 4 settle ++ numeral 4 dwells) =
-    f ∙ ap (λ n. numeral 2 n ++ (numeral 4 (field 2 4 body) ++ numeral 4 (field 6 4 body))) (sym b) ∙ ap (λ n. numeral 2 banks ++ (numeral 4 n ++ numeral 4 (field 6 4 body))) (sym s) ∙ ap (λ n. numeral 2 banks ++ (numeral 4 settle ++ numeral 4 n)) (sym d) in
-    e ∙ ap (λ xs. numeral 2 17 ++ (xs ++ (10 ∷ after))) g
-
-pub bank_text : (bytes body after : List ℕ) (i at panel dwell gap : ℕ) → bytes ≡ numeral 2 18 ++ (body ++ (10 ∷ after)) → AllDigits body → length body ≡ 12 → BankIs body at panel dwell gap → at ≡ i → bytes ≡ bank_line i (record { panel = panel; dwell = dwell; gap = gap }) ++ after
-bank_text bytes body after i at panel dwell gap e t l h own =
-    let a = sym h.at_is ∙ own in let p = sym h.panel_is in let d = sym h.dwell_is in let s = sym h.gap_is in
-    let g : body ≡ numeral 2 i ++ (numeral 2 panel ++ (numeral 4 dwell ++ numeral 4 gap)) =
-    bank_fields body t l
-    ∙ ap (λ n. numeral 2 n ++ (numeral 2 (field 2 2 body) ++ (numeral 4 (field 4 4 body) ++ numeral 4 (field 8 4 body)))) a
-    ∙ ap (λ n. numeral 2 i ++ (numeral 2 n ++ (numeral 4 (field 4 4 body) ++ numeral 4 (field 8 4 body)))) p
-    ∙ ap (λ n. numeral 2 i ++ (numeral 2 panel ++ (numeral 4 n ++ numeral 4 (field 8 4 body)))) d
-    ∙ ap (λ n. numeral 2 i ++ (numeral 2 panel ++ (numeral 4 dwell ++ numeral 4 n))) s in
-    e ∙ ap (λ xs. numeral 2 18 ++ (xs ++ (10 ∷ after))) g
 
 -- The lines of banks depend on those banks only.
 pub bank_lines_same : (xs ys : List Bank) (n : ℕ) → ((i : ℕ) → i < n → bank_at xs i ≡ bank_at ys i) → bank_lines xs n ≡ bank_lines ys n
@@ -132,57 +78,49 @@ pub bank_lines_more : (banks : List Bank) (n : ℕ) → bank_lines banks (n + 1)
 unfolding bank_lines
 bank_lines_more banks n = ap (bank_lines banks) (add-one n)
 
--- What the reading of a head line gives.
-module _ (bytes : List ℕ) (b : Bor (List ℕ)) (after : List ℕ) (banks settle dwells column : ℕ) (read : FrameRead bytes (RoundHead b) after) (r₁ : Reads 0 2 b.now banks) (r₂ : Reads 2 4 b.now settle) (r₃ : Reads 6 4 b.now dwells) (told : column ≡ head_fault banks settle dwells) where
-  head_numbers : HeadIs b.now banks settle dwells
-  head_numbers = record {
-    banks_is = reads_in bytes (RoundHead b) after 0 2 banks read (omega arith) (omega arith) r₁;
-    settle_is = reads_in bytes (RoundHead b) after 2 4 settle read (omega arith) (omega arith) r₂;
-    dwells_is = reads_in bytes (RoundHead b) after 6 4 dwells read (omega arith) (omega arith) r₃;
-  }
+-- The line of bank i that was read.
+abbrev pub bank_of : (panel dwell gap : ℕ) → Bank
+bank_of panel dwell gap = record { panel = panel; dwell = dwell; gap = gap }
 
-  pub head_bad : 0 < column → BadLine 17 head_column bytes 1 (bad_field 1 column)
-  head_bad some = bad_frame head_column bytes 1 (RoundHead b) after column read (head_column_is b.now banks settle dwells column head_numbers told) some
-
-  pub head_read : column ≤ 0 → HeadWithin banks settle dwells × (bytes ≡ head_line banks settle dwells ++ after)
-  head_read none = (
-    head_within banks settle dwells (sym told ∙ omega arith),
-    head_text bytes b.now after banks settle dwells (frame_text bytes (RoundHead b) after read) (read_digits bytes (RoundHead b) after read) (read_length bytes (RoundHead b) after read) head_numbers,
-  )
-
--- The same of the line of bank i.
-module _ (bytes : List ℕ) (b : Bor (List ℕ)) (after : List ℕ) (i at panel dwell gap column : ℕ) (read : FrameRead bytes (RoundBank b) after) (r₁ : Reads 0 2 b.now at) (r₂ : Reads 2 2 b.now panel) (r₃ : Reads 4 4 b.now dwell) (r₄ : Reads 8 4 b.now gap) (told : column ≡ bank_fault i at panel dwell gap) where
-  bank_numbers : BankIs b.now at panel dwell gap
-  bank_numbers = record {
-    at_is = reads_in bytes (RoundBank b) after 0 2 at read (omega arith) (omega arith) r₁;
-    panel_is = reads_in bytes (RoundBank b) after 2 2 panel read (omega arith) (omega arith) r₂;
-    dwell_is = reads_in bytes (RoundBank b) after 4 4 dwell read (omega arith) (omega arith) r₃;
-    gap_is = reads_in bytes (RoundBank b) after 8 4 gap read (omega arith) (omega arith) r₄;
-  }
-
-  pub bank_bad : (line : ℕ) → 0 < column → BadLine 18 (bank_column i) bytes line (bad_field line column)
-  bank_bad line some = bad_frame (bank_column i) bytes line (RoundBank b) after column read (bank_column_is i b.now at panel dwell gap column bank_numbers told) some
-
-  pub bank_read : BankGood i at panel dwell gap → BankWithin (record { panel = panel; dwell = dwell; gap = gap }) × (bytes ≡ bank_line i (record { panel = panel; dwell = dwell; gap = gap }) ++ after)
-  bank_read g = (
-    record { panel = g.panel_low; dwell = (g.dwell_some, g.dwell_low); gap = (g.gap_some, g.gap_low) },
-    bank_text bytes b.now after i at panel dwell gap (frame_text bytes (RoundBank b) after read) (read_digits bytes (RoundBank b) after read) (read_length bytes (RoundBank b) after read) bank_numbers g.own,
-  )
+pub bank_read : (i : ℕ) (bytes : List ℕ) (b : Bor (List ℕ)) (after ns : List ℕ) → FrameRead bytes (RoundBank b) after → ns ≡ numbers_in (bank_fields i) b.now → bad_column (bank_fields i) b.now ≡ 0
+    → BankWithin (bank_of (get_or ns 1 0) (get_or ns 2 0) (get_or ns 3 0)) × (bytes ≡ bank_line i (bank_of (get_or ns 1 0) (get_or ns 2 0) (get_or ns 3 0)) ++ after)
+bank_read i bytes b after ns read is good =
+    let n : get_or ns 0 0 ≡ number_in 0 2 b.now = ap (λ (xs : List ℕ). get_or xs 0 0) is in
+    let p : get_or ns 1 0 ≡ number_in 2 2 b.now = ap (λ (xs : List ℕ). get_or xs 1 0) is in
+    let d : get_or ns 2 0 ≡ number_in 4 4 b.now = ap (λ (xs : List ℕ). get_or xs 2 0) is in
+    let g : get_or ns 3 0 ≡ number_in 8 4 b.now = ap (λ (xs : List ℕ). get_or xs 3 0) is in
+    let own : get_or ns 0 0 ≡ i = grind (arith, nat_tests) in (
+      record { panel = grind (arith, nat_tests); dwell = (grind (arith, nat_tests), grind (arith, nat_tests)); gap = (grind (arith, nat_tests), grind (arith, nat_tests)) },
+      frame_of_numbers bytes (RoundBank b) after read (bank_fields i) refl ns is ∙ ap (λ (k : ℕ). bank_line k (bank_of (get_or ns 1 0) (get_or ns 2 0) (get_or ns 3 0)) ++ after) own,
+    )
 
 -- No bank is read yet.
+pub no_bank_empty : Empty no_bank
+no_bank_empty = record { panel = refl; dwell = refl; gap = refl }
+
+abbrev pub all_zeros : List Bank
+all_zeros = replicate most_banks no_bank
+
 no_bank_at : (n i : ℕ) → bank_at (replicate n no_bank) i ≡ no_bank
 no_bank_at zero i = refl
 no_bank_at (suc n) zero = refl
 no_bank_at (suc n) (suc i) = no_bank_at n i
 
-pub no_bank_empty : (n i : ℕ) → Empty (bank_at (replicate n no_bank) i)
-no_bank_empty n i = subst Empty (sym (no_bank_at n i)) (record { panel = refl; dwell = refl; gap = refl })
+pub zeros_front : (k i : ℕ) → Empty (bank_at (take k all_zeros) i)
+zeros_front k i =
+    ⊎_elim
+    (λ l. subst Empty (sym (get_or-take k all_zeros i no_bank l ∙ no_bank_at most_banks i)) no_bank_empty)
+    (λ l. subst Empty (sym (get_or_past (take k all_zeros) i no_bank (omega (arith, length-take k all_zeros)))) no_bank_empty)
+    (cases_lt i k)
 
-pub no_banks : (bytes : List ℕ) → BanksRead bytes (replicate most_banks no_bank) 0 bytes
+pub zeros_behind : (k i : ℕ) → Empty (bank_at (drop k all_zeros) i)
+zeros_behind k i = subst Empty (sym (get_or-drop k all_zeros i no_bank ∙ no_bank_at most_banks (k + i))) no_bank_empty
+
+pub no_banks : (bytes : List ℕ) (k : ℕ) → BanksRead bytes (take k all_zeros) 0 bytes
 unfolding bank_lines
-no_banks bytes = record {
+no_banks bytes k = record {
   within = λ i h. absurd (not-suc-le-zero h);
-  unused = λ i h. no_bank_empty most_banks i;
+  unused = λ i h. zeros_front k i;
   text = refl;
 }
 
@@ -203,6 +141,17 @@ one_bank_more bytes banks i rest b next r s w e =
           ∙ ap (λ x. (bank_lines banks i ++ bank_line i x) ++ next) (sym same)
           ∙ ap (λ ls. (ls ++ bank_line i (bank_at (set banks i b) i)) ++ next) (sym m)
           ∙ ap (λ ls. ls ++ next) (sym l);
+    }
+
+-- Behind the banks that were read stand zeros.
+pub banks_front : (bytes : List ℕ) (banks : List Bank) (n : ℕ) (rest : List ℕ) → length banks ≡ n → BanksRead bytes banks n rest → BanksRead bytes (banks ++ drop n all_zeros) n rest
+banks_front bytes banks n rest l r =
+    let more = drop n all_zeros in
+    let same : (k : ℕ) → k < n → bank_at banks k ≡ bank_at (banks ++ more) k = λ k h. sym (get_or_append_left banks more no_bank k (omega arith)) in
+    record {
+      within = λ k h. subst BankWithin (same k h) (r.within k h);
+      unused = λ k h. subst Empty (sym (get_or-append_right banks more n k no_bank l h)) (zeros_behind n (k - n));
+      text = r.text ∙ ap (λ (ls : List ℕ). ls ++ rest) (bank_lines_same banks (banks ++ more) n same);
     }
 
 -- What is left begins where the front ends.

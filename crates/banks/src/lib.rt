@@ -1,6 +1,7 @@
 // Bank tables, those of sheets, and the lines of a stored round that list one.
 #![tactic(auto)]
 
+mod head;
 mod listed;
 mod settling;
 mod stored;

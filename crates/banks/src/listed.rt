@@ -6,19 +6,17 @@ ghost use Rattle.banks.specs.FromSheet.{FromSheet, TableOf};
 use crate::table::{Bank, BankTable};
 use sheets::{MOST_BANKS, Sheet, bank_needs};
 
-// Bank i of a sheet.
-fn bank_of(sheet: &Sheet, i: u8) -> Bank
-    requires { i < sheet.now.count }
-    ensures { FromSheet sheet.now i result }
+// What stands at place i: a bank of the sheet, or zeros behind the last bank.
+fn place_of(sheet: &Sheet, i: u8) -> Bank
+    ensures bank { i < sheet.now.count → FromSheet sheet.now i result }
+    ensures unused { sheet.now.count ≤ i → Empty result }
 {
-    match bank_needs(sheet, i) {
-        Some(needs) => Bank {
-            panel: needs.panel,
-            dwell: needs.dwell,
-            gap: needs.gap,
-        },
-        None => unreachable(),
-    }
+    let bank = bank_needs(sheet, i).map(|needs| Bank {
+        panel: needs.panel,
+        dwell: needs.dwell,
+        gap: needs.gap,
+    });
+    bank.unwrap_or_default()
 }
 
 // All banks of a sheet, and zeros behind them.
@@ -26,13 +24,9 @@ fn banks_of(sheet: &Sheet) -> [Bank; MOST_BANKS]
     ensures banks { (i : ℕ) → i < sheet.now.count → FromSheet sheet.now i (bank_at result i) }
     ensures unused { (i : ℕ) → sheet.now.count ≤ i → Empty (bank_at result i) }
 {
-    let mut banks = [Bank {
-        panel: 0,
-        dwell: 0,
-        gap: 0,
-    }; MOST_BANKS];
-    for i in 0..sheet.count() {
-        banks[i as usize] = bank_of(sheet, i);
+    let mut banks = [Bank::default(); MOST_BANKS];
+    for (i, bank) in banks.iter_mut().enumerate() {
+        *bank = place_of(sheet, i as u8);
     }
     banks
 }

@@ -17,7 +17,7 @@ pub const MOST_DWELL: u16 = 1000;
 pub const MOST_GAP: u16 = 65533;
 
 // One feeder bank: the panel of its aerial, the ticks of one dwell on it, and the longest wait that it bears.
-#[derive(Clone, Copy, Eq, Debug)]
+#[derive(Clone, Copy, PartialEq, Eq, Default, Debug)]
 pub struct Bank {
     pub panel: u8,
     pub dwell: u16,
@@ -40,21 +40,7 @@ pub struct BankTable {
     ghost unused: { (i : ℕ) → count ≤ i → ((bank_at banks i).panel ≡ 0) × ((bank_at banks i).dwell ≡ 0) × ((bank_at banks i).gap ≡ 0) },
 }
 
-// Banks are equal exactly when they are identical.
-impl PartialEq for Bank {
-    ghost eq = { bank_eq };
-
-    ghost laws = { Keys.partial_equiv_from_equiv (Prim.search (comparing, rules)) };
-
-    fn eq(&self, other: &Bank) -> bool
-        ensures value { result ≡ bank_eq self.now other.now }
-        ensures identical { Decides result (self.now ≡ other.now) }
-    {
-        self.panel == other.panel && self.dwell == other.dwell && self.gap == other.gap
-    }
-}
-
-// Tables are equal exactly when they are identical.
+// Tables are equal exactly when they are identical. No derive promises that: the facts of a table are no part of its fields.
 impl PartialEq for BankTable {
     ghost eq = { eq_of_both (eq_of_both (on (λ t. t.count) nat_eq) (on (λ t. t.settle) nat_eq)) (on (λ t. t.banks) (pointwise bank_eq)) };
 
@@ -82,17 +68,12 @@ impl BankTable {
         ensures settle { result.settle ≡ 0 }
         ensures banks { result.banks ≡ stock_bank ∷ stock_bank ∷ replicate (most_banks - 2) no_bank }
     {
-        let none = Bank {
-            panel: 0,
-            dwell: 0,
-            gap: 0,
-        };
         let bank = Bank {
             panel: 0,
             dwell: 1,
             gap: 1,
         };
-        let mut banks = [none; MOST_BANKS];
+        let mut banks = [Bank::default(); MOST_BANKS];
         banks[0] = bank;
         banks[1] = bank;
         BankTable {
@@ -120,26 +101,14 @@ impl BankTable {
     pub fn bank(&self, i: usize) -> Option<Bank>
         ensures { MatchOption result (self.now.count ≤ i) (λ b. (i < self.now.count) × (b ≡ bank_at self.now.banks i)) }
     {
-        if i < self.count as usize {
-            Some(self.banks[i])
-        } else {
-            None
-        }
+        self.banks[..self.count as usize].get(i).copied()
     }
 
     // What stands at a place: a bank, or zeros behind the last bank.
     pub fn at(&self, i: usize) -> Bank
         ensures { result ≡ bank_at self.now.banks i }
     {
-        if i < MOST_BANKS {
-            self.banks[i]
-        } else {
-            Bank {
-                panel: 0,
-                dwell: 0,
-                gap: 0,
-            }
-        }
+        self.banks.get(i).copied().unwrap_or_default()
     }
 
     // The table of numbers that are within the limits.

@@ -5,6 +5,7 @@ pub mod Readings
 pub mod BadLinesAmong
 pub mod BadLines
 pub mod FieldNumbers
+pub mod FieldsRead
 pub mod Apart
 pub mod OneFaultAmong
 pub mod OneFault

@@ -1,14 +1,14 @@
 -- The best value among the feeders of a bank, feeder by feeder.
-use Rattle.std.proofs.Common.{◌≡◌, ℕ, ◌+◌, ◌<◌, ◌≤◌, Bool, true, false, cond, eqb, ltb, ◌⊎◌, List, length, get_or, take, count_by, sym, refl, ap, ◌∙◌, subst, inl, inr, ⊎_elim, not-suc-le-zero, arith, below_more}
-use Rattle.std.proofs.lemmas.Bool.{cases_Bool, cond-true, cond-false, true≢false, ltb-true, ltb-false, lt-ltb, eq-eqb, ne_eqb}
-use Rattle.std.proofs.lemmas.List.{length-take}
-use Rattle.std.proofs.lemmas.List.Sums.{count_by-le-length, count_by_more_yes, count_by_more_no}
+use Rattle.std.proofs.Common.{◌≡◌, ℕ, zero, suc, ◌+◌, ◌<◌, ◌≤◌, Bool, true, false, cond, eqb, ltb, ◌⊎◌, List, [], ◌∷◌, length, get_or, take, count_by, fold, filter, add-one, sym, refl, ap, ◌∙◌, subst, inl, inr, ⊎_elim, not-suc-le-zero, arith, below_more}
+use Rattle.std.proofs.lemmas.Bool.{cases_Bool, cond-true, cond-false, true≢false, ltb-true, ltb-false, lt-ltb, eqb-true, eqb-false}
+use Rattle.std.proofs.lemmas.List.Elements.{filter_more}
+use Rattle.std.proofs.lemmas.List.Sums.{fold-append}
 use Rattle.sheets.specs.declared.feeder.Feeder.{Feeder}
 use Rattle.sheets.specs.declared.sheet.needs.BankNeeds.{BankNeeds}
 use Rattle.sheets.specs.Limits.{most_swap}
 use Rattle.sheets.specs.Feeders.{no_feeder, feeder_at, allowance, NoneIn}
 use Rattle.sheets.specs.declared.sheet.Sheet.{Sheet}
-use Rattle.sheets.specs.Needs.{SetBy, Grown, NeedsOf}
+use Rattle.sheets.specs.Needs.{SetBy, grown, NeedsOf}
 
 -- An order of values: which is no worse than which, and a test whether one is better.
 pub record Order (no-worse : ℕ → ℕ → Type 0) (better : ℕ → ℕ → Bool) : Type 0 where
@@ -104,49 +104,70 @@ smaller = record {
   keeps = λ a b h. ltb-false a b h;
 }
 
--- The needs of a bank by the first n feeders.
-pub record NeedsTo (fs : List Feeder) (bank panel n : ℕ) (needs : BankNeeds) : Type 0 where
-  pub size : needs.feeders ≡ count_by (λ f. eqb f.bank bank) (take n fs)
-  pub panel_is : needs.panel ≡ panel
+-- The needs of a bank by the first n feeders, from those before any feeder.
+abbrev pub in_bank : ℕ → Feeder → Bool
+in_bank bank f = eqb f.bank bank
+
+abbrev pub needs_by : List Feeder → (bank : ℕ) → BankNeeds → ℕ → BankNeeds
+needs_by fs bank start n = fold grown start (filter (in_bank bank) (take n fs))
+
+pub record NeedsTo (fs : List Feeder) (bank n : ℕ) (start needs : BankNeeds) : Type 0 where
+  pub size : needs.feeders ≡ start.feeders
+  pub panel : needs.panel ≡ start.panel
   pub longest : BestTo (λ best x. x ≤ best) (λ f. f.reading) 0 fs bank n needs.dwell needs.dwell_feeder
   pub least : BestTo (λ best x. best ≤ x) allowance most_swap fs bank n needs.gap needs.gap_feeder
 
--- there is room for one more feeder
-pub needs_few : (fs : List Feeder) (bank panel n : ℕ) (needs : BankNeeds) → NeedsTo fs bank panel n needs → needs.feeders ≤ n
-needs_few fs bank panel n needs h = omega (arith, h.size, count_by-le-length (λ f. eqb f.bank bank) (take n fs), length-take n fs)
+module _ (fs : List Feeder) (bank : ℕ) (start : BankNeeds) where
+  -- a feeder of another bank
+  needs_other : (n : ℕ) (needs : BankNeeds) → ((feeder_at fs n).bank ≡ bank → ⊥) → NeedsTo fs bank n start needs → NeedsTo fs bank (n + 1) start needs
+  needs_other n needs other h = record {
+    size = h.size;
+    panel = h.panel;
+    longest = best_other _ _ longer (λ f. f.reading) 0 fs bank n needs.dwell needs.dwell_feeder other h.longest;
+    least = best_other _ _ smaller allowance most_swap fs bank n needs.gap needs.gap_feeder other h.least;
+  }
 
--- a feeder of another bank
-pub needs_other : (fs : List Feeder) (bank panel n : ℕ) (needs : BankNeeds) → n < length fs → ((feeder_at fs n).bank ≡ bank → ⊥) → NeedsTo fs bank panel n needs → NeedsTo fs bank panel (n + 1) needs
-needs_other fs bank panel n needs l other h = record {
-  size = h.size ∙ sym (count_by_more_no (λ f. eqb f.bank bank) fs n no_feeder l (ne_eqb (feeder_at fs n).bank bank other));
-  panel_is = h.panel_is;
-  longest = best_other _ _ longer (λ f. f.reading) 0 fs bank n needs.dwell needs.dwell_feeder other h.longest;
-  least = best_other _ _ smaller allowance most_swap fs bank n needs.gap needs.gap_feeder other h.least;
-}
+  -- one more feeder of the bank
+  needs_more : (n : ℕ) (needs : BankNeeds) → (feeder_at fs n).bank ≡ bank → 1 ≤ (feeder_at fs n).reading → allowance (feeder_at fs n) < most_swap → NeedsTo fs bank n start needs → NeedsTo fs bank (n + 1) start (grown needs (feeder_at fs n))
+  needs_more n needs there some low h = record {
+    size = h.size;
+    panel = h.panel;
+    longest = best_more _ _ longer (λ f. f.reading) 0 fs bank n needs.dwell needs.dwell_feeder there _ _ (lt-ltb 0 (feeder_at fs n).reading some) refl refl h.longest;
+    least = best_more _ _ smaller allowance most_swap fs bank n needs.gap needs.gap_feeder there _ _ (lt-ltb (allowance (feeder_at fs n)) most_swap low) refl refl h.least;
+  }
 
--- one more feeder of the bank
-pub needs_more : (fs : List Feeder) (bank panel n : ℕ) (needs more : BankNeeds) → n < length fs → (feeder_at fs n).bank ≡ bank → 1 ≤ (feeder_at fs n).reading → allowance (feeder_at fs n) < most_swap → Grown needs (feeder_at fs n) more → NeedsTo fs bank panel n needs → NeedsTo fs bank panel (n + 1) more
-needs_more fs bank panel n needs more l there some low g h = record {
-  size = g.size ∙ ap (λ (k : ℕ). k + 1) h.size ∙ sym (count_by_more_yes (λ f. eqb f.bank bank) fs n no_feeder l (eq-eqb (feeder_at fs n).bank bank there));
-  panel_is = g.panel ∙ h.panel_is;
-  longest = best_more _ _ longer (λ f. f.reading) 0 fs bank n needs.dwell needs.dwell_feeder there more.dwell more.dwell_feeder (lt-ltb 0 (feeder_at fs n).reading some) g.dwell g.longest h.longest;
-  least = best_more _ _ smaller allowance most_swap fs bank n needs.gap needs.gap_feeder there more.gap more.gap_feeder (lt-ltb (allowance (feeder_at fs n)) most_swap low) g.gap g.least h.least;
-}
+  -- the feeders one by one
+  needs_at : (n : ℕ) → n < length fs → needs_by fs bank start (n + 1) ≡ fold grown (needs_by fs bank start n) (cond (in_bank bank (feeder_at fs n)) (feeder_at fs n ∷ []) [])
+  needs_at n l = ap (fold grown start) (filter_more (in_bank bank) fs n no_feeder l) ∙ fold-append grown start (filter (in_bank bank) (take n fs)) _
 
--- no feeder yet, and all feeders of a sheet
-pub needs_none : (fs : List Feeder) (bank panel : ℕ) → NeedsTo fs bank panel 0 (record { feeders = 0; panel = panel; dwell = 0; dwell_feeder = 0; gap = most_swap; gap_feeder = 0 })
-needs_none fs bank panel = record {
-  size = refl;
-  panel_is = refl;
-  longest = best_none _ _ longer (λ f. f.reading) 0 fs bank 0;
-  least = best_none _ _ smaller allowance most_swap fs bank 0;
-}
+  pub needs_of_all : start.dwell ≡ 0 → start.gap ≡ most_swap → (n : ℕ) → n ≤ length fs → ((k : ℕ) → k < n → 1 ≤ (feeder_at fs k).reading) → ((k : ℕ) → k < n → allowance (feeder_at fs k) < most_swap) → NeedsTo fs bank n start (needs_by fs bank start n)
+  needs_of_all d g zero l some low = record {
+    size = refl;
+    panel = refl;
+    longest = subst (λ (x : ℕ). BestTo (λ best x. x ≤ best) (λ f. f.reading) 0 fs bank 0 x start.dwell_feeder) (sym d) (best_none _ _ longer (λ f. f.reading) 0 fs bank start.dwell_feeder);
+    least = subst (λ (x : ℕ). BestTo (λ best x. best ≤ x) allowance most_swap fs bank 0 x start.gap_feeder) (sym g) (best_none _ _ smaller allowance most_swap fs bank start.gap_feeder);
+  }
+  needs_of_all d g (suc n) l some low =
+      let before = needs_of_all d g n (omega arith) (λ k h. some k (omega arith)) (λ k h. low k (omega arith)) in
+      let needs = needs_by fs bank start n in
+      let f = feeder_at fs n in
+      let at = needs_at n (omega arith) in
+      subst (λ (m : ℕ). NeedsTo fs bank m start (needs_by fs bank start m)) (add-one n)
+      (⊎_elim
+      (λ yes. subst (NeedsTo fs bank (n + 1) start) (sym (at ∙ ap (fold grown needs) (cond-true _ (f ∷ []) [] yes))) (needs_more n needs (eqb-true f.bank bank yes) (some n (omega arith)) (low n (omega arith)) before))
+      (λ no. subst (NeedsTo fs bank (n + 1) start) (sym (at ∙ ap (fold grown needs) (cond-false _ (f ∷ []) [] no))) (needs_other n needs (eqb-false f.bank bank no) before))
+      (cases_Bool (in_bank bank f)))
 
-pub needs_all : (s : Sheet) (bank : ℕ) (needs : BankNeeds) → bank < s.count → NeedsTo s.feeders bank (get_or s.panels bank 0) s.listed needs → NeedsOf s bank needs
-needs_all s bank needs known h = record {
-  known = known;
-  size = h.size;
-  panel = h.panel_is;
-  longest = best_set _ _ longer (λ f. f.reading) 0 s.feeders bank s.listed needs.dwell needs.dwell_feeder (s.served bank known) h.longest;
-  least = best_set _ _ smaller allowance most_swap s.feeders bank s.listed needs.gap needs.gap_feeder (s.served bank known) h.least;
-}
+-- All feeders of a sheet.
+pub needs_all : (s : Sheet) (bank : ℕ) (start : BankNeeds) → bank < s.count → start.feeders ≡ count_by (in_bank bank) (take s.listed s.feeders) → start.panel ≡ get_or s.panels bank 0 → start.dwell ≡ 0 → start.gap ≡ most_swap
+    → NeedsOf s bank (needs_by s.feeders bank start s.listed)
+needs_all s bank start known size panel d g =
+    let needs = needs_by s.feeders bank start s.listed in
+    let h = needs_of_all s.feeders bank start d g s.listed (omega (arith, s.room, s.places)) (λ k l. (s.readings k l).0) (λ k l. omega (arith, s.readings k l, s.swaps k l)) in
+    record {
+      known = known;
+      size = h.size ∙ size;
+      panel = h.panel ∙ panel;
+      longest = best_set _ _ longer (λ f. f.reading) 0 s.feeders bank s.listed needs.dwell needs.dwell_feeder (s.served bank known) h.longest;
+      least = best_set _ _ smaller allowance most_swap s.feeders bank s.listed needs.gap needs.gap_feeder (s.served bank known) h.least;
+    }

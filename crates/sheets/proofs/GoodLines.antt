@@ -15,7 +15,8 @@ use Rattle.sheets.specs.declared.feeder.Feeder.{Feeder}
 use Rattle.sheets.specs.Limits.{most_panel, most_feeders}
 use Rattle.sheets.specs.Feeders.{FeederWithin}
 use Rattle.sheets.specs.SheetLines.{head_body, head_line, bank_body, bank_line, feeder_body, feeder_line, count_line, HeadWithin, head_fault, bank_fault, feeder_fault, count_fault, head_column, bank_column, feeder_column, count_column, due_behind, column_behind, NextRead}
-use Rattle.sheets.proofs.FeederReads.{feeder_of, feeder_due, count_due}
+use Rattle.sheets.proofs.FeederFields.{feeder_of}
+use Rattle.sheets.proofs.FeederReads.{feeder_due, count_due}
 
 -- Lines that are the same have the same number in a field.
 pub one_field : (place w m n : ℕ) (x y : List ℕ) → m < 16 ^ w → n < 16 ^ w → field place w x ≡ value (numeral w m) → field place w y ≡ value (numeral w n) → x ≡ y → m ≡ n

@@ -1,4 +1,5 @@
 pub mod SheetReads
+pub mod FeederFields
 pub mod FeederReads
 pub mod GoodLines
 pub mod OneSheet

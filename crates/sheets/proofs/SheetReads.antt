@@ -1,64 +1,30 @@
 -- What the reading of a line of a sheet says of the line, and the step from line to line.
-use Rattle.std.proofs.Common.{◌≡◌, ℕ, ◌+◌, ◌<◌, ◌≤◌, ◌≢◌, List, ◌∷◌, ◌++◌, length, get_or, set, sym, ap, ◌∙◌, subst, ap₂, not-suc-le-zero, arith, Bor, below_more}
-use Rattle.std.proofs.lemmas.List.{get_or-set_same, get_or-set_other}
+use Rattle.std.proofs.Common.{◌≡◌, ℕ, ◌+◌, ◌<◌, ◌≤◌, ◌≢◌, List, [], ◌∷◌, ◌++◌, length, get_or, set, sym, ap, ◌∙◌, subst, not-suc-le-zero, arith, below_more, refl, Bor}
+use Rattle.std.proofs.lemmas.List.{get_or_append_left, get_or-set_same, get_or-set_other}
 use Rattle.std.proofs.lemmas.Bool.Decides.{nat_tests}
-use Rattle.refusals.specs.Numbers.{bad_field}
-use Rattle.frames.specs.declared.frame.Frame.TheVariants.{SheetHead, SheetBank}
-use Rattle.frames.specs.Digits.{numeral}
+use Rattle.frames.specs.declared.fields.Field.{Field}
+use Rattle.frames.specs.declared.frame.Frame.TheVariants.{SheetBank}
 use Rattle.frames.specs.Frames.{FrameRead}
-use Rattle.frames.specs.BadLines.{field, BadLine}
-use Rattle.frames.proofs.BadLines.{Reads, reads_in, bad_frame, frame_text, read_digits, read_length, next_field, end_field}
-use Rattle.frames.proofs.LinesTo.{lines_none, one_line_more}
+use Rattle.frames.specs.Fields.{numbers_in, bad_column, number_in}
+use Rattle.frames.proofs.FieldsRead.{frame_of_numbers}
+use Rattle.frames.proofs.LinesTo.{lines_none, lines_same, one_line_more}
 use Rattle.sheets.specs.Limits.{most_panel}
-use Rattle.sheets.specs.SheetLines.{head_line, bank_line, HeadWithin, head_fault, bank_fault, head_column, bank_column, BanksRead}
+use Rattle.sheets.specs.SheetLines.{bank_line, BanksRead}
 
--- Where no column is told, the numbers are within their limits.
-pub head_within : (banks settle : ℕ) → head_fault banks settle ≡ 0 → HeadWithin banks settle
-head_within banks settle e = record { enough = grind (arith, nat_tests); few = grind (arith, nat_tests); settles = grind (arith, nat_tests) }
+-- The fields of a head line, and of the line that is due for bank i.
+abbrev pub head_fields : List Field
+head_fields = record { place = 0; width = 2; low = 2; high = 16 } ∷ record { place = 2; width = 4; low = 0; high = 1000 } ∷ []
 
-pub bank_within : (i at panel : ℕ) → bank_fault i at panel ≡ 0 → (at ≡ i) × (panel ≤ most_panel)
-bank_within i at panel e = (grind (arith, nat_tests), grind (arith, nat_tests))
+abbrev pub bank_fields : ℕ → List Field
+bank_fields i = record { place = 0; width = 2; low = i; high = i } ∷ record { place = 2; width = 2; low = 0; high = 3 } ∷ []
 
--- The head line.
-module _ (bytes : List ℕ) (b : Bor (List ℕ)) (after : List ℕ) (banks settle column : ℕ) (read : FrameRead bytes (SheetHead b) after) (r₁ : Reads 0 2 b.now banks) (r₂ : Reads 2 4 b.now settle) (told : column ≡ head_fault banks settle) where
-  banks_is : banks ≡ field 0 2 b.now
-  banks_is = reads_in bytes (SheetHead b) after 0 2 banks read (omega arith) (omega arith) r₁
-
-  settle_is : settle ≡ field 2 4 b.now
-  settle_is = reads_in bytes (SheetHead b) after 2 4 settle read (omega arith) (omega arith) r₂
-
-  pub head_bad : 0 < column → BadLine 1 head_column bytes 1 (bad_field 1 column)
-  head_bad some = bad_frame head_column bytes 1 (SheetHead b) after column read (told ∙ ap₂ head_fault banks_is settle_is) some
-
-  pub head_read : column ≤ 0 → HeadWithin banks settle × (bytes ≡ head_line banks settle ++ after)
-  head_read none =
-      let t = read_digits bytes (SheetHead b) after read in
-      let l = read_length bytes (SheetHead b) after read in (
-        head_within banks settle (sym told ∙ omega arith),
-        frame_text bytes (SheetHead b) after read
-            ∙ ap (λ xs. numeral 2 1 ++ (xs ++ (10 ∷ after))) (next_field 0 2 banks b.now (numeral 4 settle) t (omega arith) banks_is (end_field 2 4 settle b.now t (sym l) settle_is)),
-      )
-
--- The line of bank i.
-module _ (bytes : List ℕ) (b : Bor (List ℕ)) (after : List ℕ) (i at panel column : ℕ) (read : FrameRead bytes (SheetBank b) after) (r₁ : Reads 0 2 b.now at) (r₂ : Reads 2 2 b.now panel) (told : column ≡ bank_fault i at panel) where
-  at_is : at ≡ field 0 2 b.now
-  at_is = reads_in bytes (SheetBank b) after 0 2 at read (omega arith) (omega arith) r₁
-
-  panel_is : panel ≡ field 2 2 b.now
-  panel_is = reads_in bytes (SheetBank b) after 2 2 panel read (omega arith) (omega arith) r₂
-
-  pub bank_bad : (line : ℕ) → 0 < column → BadLine 2 (bank_column i) bytes line (bad_field line column)
-  bank_bad line some = bad_frame (bank_column i) bytes line (SheetBank b) after column read (told ∙ ap₂ (bank_fault i) at_is panel_is) some
-
-  pub bank_read : column ≤ 0 → (panel ≤ most_panel) × (bytes ≡ bank_line i panel ++ after)
-  bank_read none =
-      let t = read_digits bytes (SheetBank b) after read in
-      let l = read_length bytes (SheetBank b) after read in
-      let w = bank_within i at panel (sym told ∙ omega arith) in (
-        w.1,
-        frame_text bytes (SheetBank b) after read
-            ∙ ap (λ xs. numeral 2 2 ++ (xs ++ (10 ∷ after))) (next_field 0 2 i b.now (numeral 2 panel) t (omega arith) (sym w.0 ∙ at_is) (end_field 2 2 panel b.now t (sym l) panel_is)),
-      )
+-- The line of bank i that was read.
+pub bank_read : (i : ℕ) (bytes : List ℕ) (b : Bor (List ℕ)) (after ns : List ℕ) → FrameRead bytes (SheetBank b) after → ns ≡ numbers_in (bank_fields i) b.now → bad_column (bank_fields i) b.now ≡ 0 → (get_or ns 1 0 ≤ most_panel) × (bytes ≡ bank_line i (get_or ns 1 0) ++ after)
+bank_read i bytes b after ns read is good =
+    let n : get_or ns 0 0 ≡ number_in 0 2 b.now = ap (λ (xs : List ℕ). get_or xs 0 0) is in
+    let p : get_or ns 1 0 ≡ number_in 2 2 b.now = ap (λ (xs : List ℕ). get_or xs 1 0) is in
+    let own : get_or ns 0 0 ≡ i = grind (arith, nat_tests) in
+    (grind (arith, nat_tests), frame_of_numbers bytes (SheetBank b) after read (bank_fields i) refl ns is ∙ ap (λ (k : ℕ). bank_line k (get_or ns 1 0) ++ after) own)
 
 -- No bank is read yet, and one bank more.
 pub no_banks : (bytes panels : List ℕ) → BanksRead bytes panels 0 bytes
@@ -72,4 +38,13 @@ one_bank_more bytes panels i rest p next r s w e =
       within = below_more (λ k. get_or (set panels i p) k 0 ≤ most_panel) i (λ k h. subst (λ (n : ℕ). n ≤ most_panel) (sym (other k h)) (r.within k h)) (subst (λ (n : ℕ). n ≤ most_panel) (sym same) w);
       text = one_line_more (λ k. bank_line k (get_or panels k 0)) (λ k. bank_line k (get_or (set panels i p) k 0)) i bytes rest next
           (λ k h. ap (bank_line k) (other k h)) r.text (e ∙ ap (λ (n : ℕ). bank_line i n ++ next) (sym same));
+    }
+
+-- What stands behind the banks that were read does not count.
+pub banks_front : (bytes panels more : List ℕ) (n : ℕ) (rest : List ℕ) → length panels ≡ n → BanksRead bytes panels n rest → BanksRead bytes (panels ++ more) n rest
+banks_front bytes panels more n rest l r =
+    let same : (k : ℕ) → k < n → get_or panels k 0 ≡ get_or (panels ++ more) k 0 = λ k h. sym (get_or_append_left panels more 0 k (omega arith)) in
+    record {
+      within = λ k h. subst (λ (m : ℕ). m ≤ most_panel) (same k h) (r.within k h);
+      text = r.text ∙ ap (λ (ls : List ℕ). ls ++ rest) (lines_same _ _ n (λ k h. ap (bank_line k) (same k h)));
     }

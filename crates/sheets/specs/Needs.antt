@@ -1,5 +1,5 @@
 -- What a bank needs, by the feeders in it.
-use Rattle.std.specs.Prelude.{◌≡◌, ℕ, ◌+◌, ◌<◌, ◌≤◌, cond, List, count_by, ◌≢◌, nat_eq, nat_lt, slice_index}
+use Rattle.std.specs.Prelude.{◌≡◌, ℕ, ◌<◌, ◌≤◌, cond, List, count_by, ◌≢◌, nat_eq, nat_lt, slice_index}
 use Rattle.sheets.specs.declared.feeder.Feeder.{Feeder}
 use Rattle.sheets.specs.declared.sheet.Sheet.{Sheet}
 use Rattle.sheets.specs.declared.sheet.needs.BankNeeds.{BankNeeds}
@@ -26,13 +26,15 @@ abbrev pub LeastAllowance : List Feeder → (n bank gap number : ℕ) → Type 0
 LeastAllowance = SetBy (λ best v. best ≤ v) allowance
 
 -- What one more feeder of the bank makes of its needs: a longer reading takes over the dwell, and a smaller allowance the gap.
-pub record Grown (needs : BankNeeds) (f : Feeder) (more : BankNeeds) : Type 0 where
-  pub size : more.feeders ≡ needs.feeders + 1
-  pub panel : more.panel ≡ needs.panel
-  pub dwell : more.dwell ≡ cond (nat_lt needs.dwell f.reading) f.reading needs.dwell
-  pub longest : more.dwell_feeder ≡ cond (nat_lt needs.dwell f.reading) f.number needs.dwell_feeder
-  pub gap : more.gap ≡ cond (nat_lt (allowance f) needs.gap) (allowance f) needs.gap
-  pub least : more.gap_feeder ≡ cond (nat_lt (allowance f) needs.gap) f.number needs.gap_feeder
+abbrev pub grown : BankNeeds → Feeder → BankNeeds
+grown needs f = record {
+  feeders = needs.feeders;
+  panel = needs.panel;
+  dwell = cond (nat_lt needs.dwell f.reading) f.reading needs.dwell;
+  dwell_feeder = cond (nat_lt needs.dwell f.reading) f.number needs.dwell_feeder;
+  gap = cond (nat_lt (allowance f) needs.gap) (allowance f) needs.gap;
+  gap_feeder = cond (nat_lt (allowance f) needs.gap) f.number needs.gap_feeder;
+}
 
 -- The needs of a bank of a sheet.
 pub record NeedsOf (s : Sheet) (bank : ℕ) (needs : BankNeeds) : Type 0 where

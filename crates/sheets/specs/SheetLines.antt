@@ -2,8 +2,6 @@
 use Rattle.std.specs.Prelude.{◌≡◌, ℕ, ◌+◌, ◌<◌, ◌≤◌, Bool, cond, ◌&&◌, ◌||◌, List, ◌++◌, length, Some, None, Option, ◌==◌, nat_le, nat_lt, slice_index}
 use Rattle.refusals.specs.declared.Refusal.{Refusal}
 use Rattle.refusals.specs.Numbers.{repeated_feeder, bare_bank, bad_end}
-use Rattle.frames.specs.declared.faults.FileFault.{FileFault}
-use Rattle.frames.specs.declared.faults.FileFault.TheVariants.{Field}
 use Rattle.frames.specs.Digits.{numeral}
 use Rattle.frames.specs.Frames.{line_of}
 use Rattle.frames.specs.Lines.{lines_to}
@@ -111,10 +109,6 @@ pub record BankFault (bytes : List ℕ) (count : ℕ) (r : Refusal) : Type 0 whe
   pub due : i < count
   pub good : BanksRead bytes panels i rest
   pub bad : BadLine 2 (bank_column i) rest (2 + i) r
-
--- The fault tells this column of the line, where a number outside its limits begins.
-abbrev pub ToldColumn : (column line : ℕ) → FileFault → Type 0
-ToldColumn column line e = (0 < column) × (e ≡ Field line column)
 
 -- The bytes begin with the lines of n feeders that a sheet may list, and go on with the rest.
 pub record FeedersRead (banks : ℕ) (bytes : List ℕ) (fs : List Feeder) (n : ℕ) (rest : List ℕ) : Type 0 where

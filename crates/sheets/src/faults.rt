@@ -4,7 +4,8 @@ ghost use Rattle.sheets.specs.declared.faults.SheetFault.TheVariants.{File};
 ghost use Rattle.sheets.specs.Faults.{sheet_told};
 
 use frames::FileFault;
-use refusals::Refusal;
+use refusals::{Refusal, RefusalNumber};
+use std::error::Error;
 use std::fmt;
 
 // Why a file is refused as a sheet. Lines count from 1.
@@ -25,16 +26,28 @@ impl From<FileFault> for SheetFault {
     }
 }
 
+impl From<SheetFault> for Refusal {
+    ghost from_gives = { λ e r. r ≡ sheet_told e };
+
+    fn from(fault: SheetFault) -> Refusal {
+        match fault {
+            SheetFault::File(fault) => Refusal::from(fault),
+            SheetFault::Repeated { line } => {
+                Refusal::in_file(RefusalNumber::RepeatedFeeder as u8, line, 3)
+            }
+            SheetFault::NoFeeder { line } => {
+                Refusal::in_file(RefusalNumber::BareBank as u8, line, 1)
+            }
+        }
+    }
+}
+
 impl SheetFault {
     // The refusal's number and values.
     pub fn told(&self) -> Refusal
         ensures { result ≡ sheet_told self.now }
     {
-        match *self {
-            SheetFault::File(fault) => fault.told(),
-            SheetFault::Repeated { line } => Refusal::in_file(5, line, 3),
-            SheetFault::NoFeeder { line } => Refusal::in_file(6, line, 1),
-        }
+        Refusal::from(*self)
     }
 }
 
@@ -58,3 +71,5 @@ impl fmt::Display for SheetFault {
         }
     }
 }
+
+impl Error for SheetFault {}

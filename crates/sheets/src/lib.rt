@@ -3,9 +3,11 @@
 
 mod faults;
 mod feeder;
+mod head;
 mod limits;
 mod lines;
 mod list;
+mod listed;
 mod reader;
 mod sheet;
 #[cfg(test)]

@@ -7,7 +7,7 @@ use crate::faults::SheetFault;
 use crate::lines::{read_banks, read_head};
 use crate::list::read_list;
 use crate::sheet::Sheet;
-use frames::{FileFault, MOST_BYTES};
+use frames::Unread;
 
 // Reads a sheet from the bytes of a file.
 pub fn read_sheet(bytes: &[u8]) -> Result<Sheet, SheetFault>
@@ -15,11 +15,9 @@ pub fn read_sheet(bytes: &[u8]) -> Result<Sheet, SheetFault>
     ensures exact { Decides (is_ok result) (SomeSheet bytes.now) }
     ensures only { MatchResult result (λ s. OnlySheet bytes.now s) (λ e. OnlyFault bytes.now (sheet_told e)) }
 {
-    if bytes.len() > MOST_BYTES {
-        return Err(SheetFault::File(FileFault::TooLong));
-    }
-    let (head, after) = read_head(bytes)?;
-    let (panels, rest) = read_banks(after, head.banks)?;
-    let list = read_list(rest, head.banks)?;
-    Ok(Sheet::of(head.banks, head.settle, panels, list.count, list.feeders))
+    let mut lines = Unread::of(bytes)?;
+    let head = read_head(&mut lines)?;
+    let panels = read_banks(&mut lines, head)?;
+    let list = read_list(&mut lines, head)?;
+    Ok(Sheet::of(head, panels, list))
 }

@@ -11,7 +11,8 @@ mod needs;
 
 pub use needs::{BankNeeds, bank_needs};
 
-// The panels stand in the first `count` places, and the feeders in the first `listed`.
+// The panels stand in the first `count` places, and the feeders in the first `listed`: arrays beside their numbers, since a sheet is
+// copied, and a list of a fixed room is not.
 #[derive(Clone, Copy)]
 pub struct Sheet {
     count: u8,

@@ -4,7 +4,9 @@ ghost use Rattle.sheets.specs.Feeders.{SheetWithin};
 ghost use Rattle.sheets.specs.SheetText.{list_of};
 
 use crate::feeder::Feeder;
-use crate::limits::{MOST_BANKS, MOST_FEEDERS};
+use crate::head::Head;
+use crate::limits::MOST_BANKS;
+use crate::listed::FeederList;
 use crate::sheet::Sheet;
 
 impl Sheet {
@@ -26,11 +28,7 @@ impl Sheet {
     pub fn panel(&self, bank: usize) -> Option<u8>
         ensures { MatchOption result (self.now.count ≤ bank) (λ p. (bank < self.now.count) × (p ≡ slice_index self.now.panels bank)) }
     {
-        if bank < self.count as usize {
-            Some(self.panels[bank])
-        } else {
-            None
-        }
+        self.panels[..self.count as usize].get(bank).copied()
     }
 
     // The feeders, in the order of the sheet.
@@ -42,25 +40,20 @@ impl Sheet {
     }
 
     // The sheet of numbers that are within the limits.
-    pub(crate) fn of(
-        count: u8,
-        settle: u16,
-        panels: [u8; MOST_BANKS],
-        listed: usize,
-        feeders: [Feeder; MOST_FEEDERS],
-    ) -> Sheet
-        requires { SheetWithin count settle panels listed feeders }
-        ensures count { result.count ≡ count }
-        ensures settle { result.settle ≡ settle }
+    pub(crate) fn of(head: Head, panels: [u8; MOST_BANKS], list: FeederList) -> Sheet
+        requires { SheetWithin head.banks head.settle panels list.count list.feeders }
+        ensures count { result.count ≡ head.banks }
+        ensures settle { result.settle ≡ head.settle }
         ensures panels { result.panels ≡ panels }
-        ensures listed { result.listed ≡ listed }
-        ensures feeders { result.feeders ≡ feeders }
+        ensures listed { result.listed ≡ list.count }
+        ensures feeders { result.feeders ≡ list.feeders }
     {
+        let feeders = list.feeders;
         Sheet {
-            count,
-            settle,
+            count: head.banks,
+            settle: head.settle,
             panels,
-            listed,
+            listed: list.count,
             feeders,
         }
     }

@@ -1,7 +1,6 @@
 // What a bank needs, by the feeders in it.
-ghost use Rattle.std.specs.Prelude.{◌<◌, ◌≤◌, MatchOption};
-ghost use Rattle.sheets.specs.Limits.{most_feeders};
-ghost use Rattle.sheets.specs.Needs.{Grown, NeedsOf};
+ghost use Rattle.std.specs.Prelude.{◌≡◌, ◌≤◌, MatchOption};
+ghost use Rattle.sheets.specs.Needs.{grown, NeedsOf};
 
 use crate::feeder::Feeder;
 use crate::limits::MOST_SWAP;
@@ -18,13 +17,11 @@ pub struct BankNeeds {
     pub gap_feeder: u16,
 }
 
-// The needs with one more feeder.
+// The needs with one more feeder, which is counted already.
 fn with_feeder(needs: BankNeeds, feeder: Feeder) -> BankNeeds
-    requires { needs.feeders < most_feeders }
-    ensures { Grown needs feeder result }
+    ensures { result ≡ grown needs feeder }
 {
     let mut more = needs;
-    more.feeders += 1;
     if feeder.reading > needs.dwell {
         more.dwell = feeder.reading;
         more.dwell_feeder = feeder.number;
@@ -41,22 +38,16 @@ fn with_feeder(needs: BankNeeds, feeder: Feeder) -> BankNeeds
 pub fn bank_needs(sheet: &Sheet, bank: u8) -> Option<BankNeeds>
     ensures { MatchOption result (sheet.now.count ≤ bank) (λ needs. NeedsOf sheet.now bank needs) }
 {
-    if bank >= sheet.count {
-        return None;
-    }
-    let mut needs = BankNeeds {
-        feeders: 0,
-        panel: sheet.panels[bank as usize],
+    let panel = sheet.panel(bank as usize)?;
+    let feeders = sheet.feeders();
+    let none = BankNeeds {
+        feeders: feeders.iter().filter(|f| f.bank == bank).count(),
+        panel,
         dwell: 0,
         dwell_feeder: 0,
         gap: MOST_SWAP,
         gap_feeder: 0,
     };
-    for k in 0..sheet.listed {
-        let feeder = sheet.feeders[k];
-        if feeder.bank == bank {
-            needs = with_feeder(needs, feeder);
-        }
-    }
-    Some(needs)
+    let of_bank = feeders.iter().copied().filter(|f| f.bank == bank);
+    Some(of_bank.fold(none, with_feeder))
 }

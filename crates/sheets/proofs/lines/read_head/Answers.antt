@@ -1,34 +1,31 @@
-use Rattle.std.proofs.Common.{subst}
+use Rattle.std.proofs.Common.{refl, arith}
 use Rattle.std.proofs.lemmas.Result.{err_from_is_err_and}
-use Rattle.frames.specs.declared.frame.Frame.{Frame}
-use Rattle.frames.specs.Frames.{FrameRead}
+use Rattle.frames.specs.declared.frame.Frame.TheVariants.{SheetHead}
 use Rattle.frames.proofs.BadLines.{next_fails, other_frame}
+use Rattle.frames.proofs.FieldsRead.{read_as, told_bad, frame_of_numbers}
 use Rattle.frames.proofs.Shapes.{not_kind}
 use Rattle.sheets.specs.SheetLines.{head_column}
-use Rattle.sheets.proofs.SheetReads.{head_bad, head_read}
+use Rattle.sheets.proofs.SheetReads.{head_fields}
 use Rattle.sheets.proofs.lines.read_head.Goals as goal
 
-pub returns-in_err-frame : goal.returns-in_err-frame
-returns-in_err-frame c =
+pub returns-in_err-body : goal.returns-in_err-body
+returns-in_err-body c =
     let p = err_from_is_err_and c.from_residual.result c.from_residual.ensures.1 in
-    rw (p.1, p.2) (next_fails 1 head_column c.args.bytes.now 1 c.in_err-frame.field-0.0 c.requires c.in_err-frame.ensures)
+    let l = c.args.lines.now in
+    rw (p.1, p.2) (next_fails 1 head_column l.rest.now l.line _ (omega (arith, l.first, l.counted)) c.in_err-body.ensures.0)
 
 pub returns-in_default : goal.returns-in_default
 returns-in_default c =
-    other_frame 1 head_column c.args.bytes.now 1 c.in_ok-frame.frame c.in_ok-frame.after.now c.in_ok-frame.ensures (not_kind 1 c.in_ok-frame.frame c.in_default.not-SheetHead)
+    let l = c.args.lines.now in
+    rw c.line-line.ensures (other_frame 1 head_column l.rest.now l.line c.in_ok-body.field-0 _ c.in_ok-body.ensures.0 (not_kind 1 c.in_ok-body.field-0 c.in_default.not-SheetHead))
 
-pub returns-then-column-gt0 : goal.returns-then-column-gt0
-returns-then-column-gt0 c =
-    let bytes = c.args.bytes.now in
-    let after = c.in_ok-frame.after.now in
-    let read = subst (λ (f : Frame). FrameRead bytes f after) c.in-SheetHead.is c.in_ok-frame.ensures in
-    head_bad bytes c.in-SheetHead.body after c.number_at-banks.result c.number_at-settle.result c.head_fault-column.result read
-    c.number_at-banks.ensures.read c.number_at-settle.ensures.read c.head_fault-column.ensures c.if-column-gt0.true
+pub returns-in_err-banks : goal.returns-in_err-banks
+returns-in_err-banks c =
+    let l = c.args.lines.now in
+    let p = err_from_is_err_and c.from_residual-in_err-banks.result c.from_residual-in_err-banks.ensures.1 in
+    rw (p.1, p.2, ← c.line-line.ensures) (told_bad l.rest.now (SheetHead c.in-SheetHead.body) _ (read_as c.in-SheetHead.is c.in_ok-body.ensures.0) head_fields refl c.line-line.result _ c.in_err-banks.ensures)
 
 pub returns : goal.returns
 returns c =
-    let bytes = c.args.bytes.now in
-    let after = c.in_ok-frame.after.now in
-    let read = subst (λ (f : Frame). FrameRead bytes f after) c.in-SheetHead.is c.in_ok-frame.ensures in
-    head_read bytes c.in-SheetHead.body after c.number_at-banks.result c.number_at-settle.result c.head_fault-column.result read
-    c.number_at-banks.ensures.read c.number_at-settle.ensures.read c.head_fault-column.ensures c.if-column-gt0.false
+    let l = c.args.lines.now in
+    (frame_of_numbers l.rest.now (SheetHead c.in-SheetHead.body) _ (read_as c.in-SheetHead.is c.in_ok-body.ensures.0) head_fields refl c.in_ok-banks.field-0 c.in_ok-banks.ensures.0, c.in_ok-body.ensures.1)

@@ -1,29 +1,26 @@
-use Rattle.std.proofs.Common.{◌≡◌, ap, arith}
-use Rattle.frames.specs.declared.faults.FileFault.TheVariants.{Field}
-use Rattle.sheets.specs.Feeders.{FeederWithin}
-use Rattle.sheets.specs.SheetLines.{feeder_body}
-use Rattle.sheets.proofs.FeederReads.{feeder_of, feeder_told, feeder_good}
+use Rattle.std.proofs.Common.{◌≤◌, arith}
+use Rattle.std.proofs.lemmas.Result.{err_from_is_err_and}
+use Rattle.sheets.proofs.FeederFields.{first_bad, last_bad, feeder_within, feeder_text}
 use Rattle.sheets.proofs.list.feeder_in.Goals as goal
 
-pub returns-then-column-gt0 : goal.returns-then-column-gt0
-returns-then-column-gt0 c =
-    let e = feeder_told c.args.body.now c.requires.digits c.requires.size c.args.banks c.number_at-number.result c.number_at-bank.result c.number_at-reading.result c.number_at-swap.result c.feeder_fault-column.result
-    c.number_at-number.ensures.read c.number_at-bank.ensures.read c.number_at-reading.ensures.read c.number_at-swap.ensures.read c.feeder_fault-column.ensures in
-    (omega (arith, e, c.if-column-gt0.true), ap (Field c.args.line) e)
+pub returns-in_err-number : goal.returns-in_err-number
+returns-in_err-number c =
+    let p = err_from_is_err_and c.from_residual.result c.from_residual.ensures.1 in
+    let some : 1 ≤ c.args.head.banks = omega (arith, c.args.head.enough) in
+    rw (p.1, p.2) (first_bad c.args.body.now c.requires.digits c.requires.size c.args.head.banks some c.args.line _ c.in_err-number.ensures)
 
-good : (c : goal.Else-column-gt0) → FeederWithin c.args.banks (feeder_of c.number_at-number.result c.number_at-bank.result c.number_at-reading.result c.number_at-swap.result) × (c.args.body.now ≡ feeder_body (feeder_of c.number_at-number.result c.number_at-bank.result c.number_at-reading.result c.number_at-swap.result))
-good c =
-    feeder_good c.args.body.now c.requires.digits c.requires.size c.args.banks c.number_at-number.result c.number_at-bank.result c.number_at-reading.result c.number_at-swap.result c.feeder_fault-column.result
-    c.number_at-number.ensures.read c.number_at-bank.ensures.read c.number_at-reading.ensures.read c.number_at-swap.ensures.read c.feeder_fault-column.ensures c.if-column-gt0.false
-
-pub overflow_cast-result-2 : goal.overflow_cast-result-2
-overflow_cast-result-2 c = let w = (good c).0.on_bank in let h = c.ranges.banks.fits in omega (arith, w, h)
-
-pub overflow_cast-result-3 : goal.overflow_cast-result-3
-overflow_cast-result-3 c = let w = (good c).0.few_reading in omega (arith, w)
-
-pub overflow_cast-result-4 : goal.overflow_cast-result-4
-overflow_cast-result-4 c = let w = (good c).0.short_swap in omega (arith, w)
+pub returns-in_err-swap : goal.returns-in_err-swap
+returns-in_err-swap c =
+    let p = err_from_is_err_and c.from_residual-in_err-swap.result c.from_residual-in_err-swap.ensures.1 in
+    let some : 1 ≤ c.args.head.banks = omega (arith, c.args.head.enough) in
+    let n = c.in_ok-number.ensures in
+    rw (p.1, p.2) (last_bad c.args.body.now c.requires.digits c.requires.size c.args.head.banks some _ n.0 n.1 c.args.line _ c.in_err-swap.ensures)
 
 pub returns : goal.returns
-returns c = good c
+returns c =
+    let some : 1 ≤ c.args.head.banks = omega (arith, c.args.head.enough) in
+    let n = c.in_ok-number.ensures in
+    let m = c.in_ok-swap.ensures in (
+      feeder_within c.args.body.now c.requires.digits c.requires.size c.args.head.banks some _ n.0 n.1 _ m.0 m.1,
+      feeder_text c.args.body.now c.requires.digits c.requires.size c.args.head.banks some _ n.0 n.1 _ m.0 m.1,
+    )
