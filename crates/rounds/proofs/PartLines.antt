@@ -260,3 +260,8 @@ module _ (banks dwells : ℕ) (bytes : List ℕ) where
           subst (λ (d : ℕ). BadLine 19 (part_column banks d) lines.rest.now ((2 + banks) + g.parts) r) same
           (subst (λ (n : ℕ). BadLine 19 (part_column banks due) lines.rest.now n r) g.line bad);
     }
+
+-- A fault of the same list of the same lines.
+pub fault_along : {m n d e : ℕ} {x y : List ℕ} {r : Refusal} → m ≡ n → d ≡ e → x ≡ y → PartsFault m d x r → PartsFault n e y r
+fault_along {m} {n} {d} {e} {x} {y} {r} count dwells lines f =
+    subst (λ (k : ℕ). PartsFault k e y r) count (subst (λ (k : ℕ). PartsFault m k y r) dwells (subst (λ (ys : List ℕ). PartsFault m d ys r) lines f))
