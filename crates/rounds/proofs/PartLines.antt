@@ -1,6 +1,5 @@
 -- The lines of a list: the banks that the digits of a part tell, and the step from part to part.
 use Rattle.std.proofs.Common.{◌≡◌, ℕ, zero, suc, ◌+◌, ◌-◌, ◌*◌, ◌/◌, ◌%◌, ◌<◌, ◌≤◌, min, cond, eqb, ltb, List, [], ◌∷◌, ◌++◌, length, take, drop, sym, refl, ap, ◌∙◌, subst, ap₂, ⊎_elim, append_assoc, append-nil, not-suc-le-zero, add-one, arith, Bor}
-use native.Mathlib.Nat.{sub-zero}
 use Rattle.std.specs.List.{flat_map}
 use Rattle.std.proofs.lemmas.List.{nil_from_length, length-drop, length-append, get_or_append_left, get_or-append_right, take_all, take_at, take_rest, drop_at, take-append-le, drop-append-le, flat_map_more, length_push}
 use Rattle.std.proofs.lemmas.Bool.{lt-ltb, le-ltb, cond-true, cond-false, cases_lt}
@@ -52,17 +51,6 @@ module _ (banks : ℕ) (digits before : List ℕ) where
     pub digits_left : AllDigits rest
     pub text : digits ≡ flat_map (numeral 2) put ++ rest
     pub column : bad_bank banks (length digits / 2) 5 digits ≡ bad_bank banks (length digits / 2 - k) (5 + 2 * k) rest
-
-  pub put_none : AllDigits digits → Putting before digits 0
-  put_none t = record {
-    put = [];
-    behind = sym (append-nil before);
-    long = refl;
-    only = λ k l. absurd (not-suc-le-zero l);
-    digits_left = t;
-    text = refl;
-    column = ap (λ n. bad_bank banks n 5 digits) (sym (sub-zero (length digits / 2)));
-  }
 
   -- the next two digits
   module _ (list rest two after : List ℕ) (k n : ℕ) (h : Putting list rest k) (cut : rest ≡ two ++ after) (l : length two ≡ 2) where
