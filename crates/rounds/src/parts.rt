@@ -13,6 +13,13 @@ use frames::{Field, FileFault, Frame, Unread, number, read_fields};
 // The most dwells of one line.
 pub const PART_SIZE: usize = 16;
 
+// How many lines a list of so many dwells has.
+pub fn parts_of(dwells: usize) -> usize
+    ensures { result ≡ parts_of dwells }
+{
+    dwells.div_ceil(PART_SIZE)
+}
+
 // The column of the first bank of a line.
 const FIRST_BANK: u32 = 5;
 
@@ -60,7 +67,7 @@ pub(crate) fn read_parts(lines: &mut Unread, banks: u8, dwells: usize) -> Result
     ensures { MatchResult result (λ xs. (length xs.items ≡ dwells) × PartsRead banks lines.old.rest.now xs.items lines.new.rest.now × (lines.new.line ≡ (2 + banks) + parts_of dwells)) (λ e. PartsFault banks dwells lines.old.rest.now (file_told e)) }
 {
     let mut list = Lap::new();
-    while list.len() < dwells {
+    for _ in 0..parts_of(dwells) {
         let due = PART_SIZE.min(dwells - list.len());
         read_part(lines, banks, due as u32, &mut list)?;
     }
