@@ -1,5 +1,6 @@
 // A reader that runs a round.
-ghost use Rattle.std.specs.Prelude.{◌*◌, ◌<◌};
+ghost use Rattle.std.specs.Prelude.{◌*◌, ◌<◌, length};
+ghost use Rattle.rounds.specs.Record.{list_of};
 
 use rounds::RoundRecord;
 
@@ -11,5 +12,5 @@ mod calls;
 pub struct RunningReader {
     round: RoundRecord,
     place: usize,
-    ghost within: { place < 2 * round.dwells },
+    ghost within: { place < 2 * length (list_of round) },
 }

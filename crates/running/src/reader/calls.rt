@@ -1,9 +1,10 @@
 // Starting, asking and stopping a reader.
-ghost use Rattle.std.specs.Prelude.{◌≡◌, ℕ, ◌+◌, ◌*◌, ◌<◌, Some};
+ghost use Rattle.std.specs.Prelude.{◌≡◌, ℕ, ◌+◌, ◌*◌, ◌<◌, length, Some};
 ghost use Rattle.banks.specs.Table.{panel};
 ghost use Rattle.readers.specs.Panelled.{settling};
 ghost use Rattle.sheets.specs.declared.sheet.Sheet.{Sheet};
 ghost use Rattle.banks.specs.FromSheet.{TableOf};
+ghost use Rattle.rounds.specs.Record.{list_of};
 ghost use Rattle.running.specs.Swaps.{NoSwapMissed};
 ghost use Rattle.running.specs.Told.{reply_at, told};
 
@@ -48,7 +49,7 @@ impl RunningReader {
 
     // The place after this one, or one lap earlier, where the same is told from there on.
     fn place_after(&self) -> usize
-        ensures within { result < 2 * self.now.round.dwells }
+        ensures within { result < 2 * length (list_of self.now.round) }
         ensures alike { (n : ℕ) → reply_at self.now.round (result + n) ≡ told self.now (n + 1) }
     {
         let dwells = self.round.list().len();
