@@ -11,7 +11,7 @@ use Rattle.rounds.specs.Record.{list_of}
 use Rattle.accounts.specs.Account.{Lap, Slack}
 use Rattle.accounts.proofs.Served.{round_lap, longest_one}
 
-module _ (r : RoundRecord) (t : BankTable) (xs : List ℕ) (same_table : t ≡ r.table) (same : xs ≡ list_of r) (long : length xs ≡ r.dwells) where
+module _ (r : RoundRecord) (t : BankTable) (xs : List ℕ) (same_table : t ≡ r.table) (same : xs ≡ list_of r) (long : length xs ≡ length (list_of r)) where
   pub list_kept : LawfulForEver (panelled t) xs
   list_kept = record {
     some_move = let s = r.some in omega (arith, long);

@@ -1,5 +1,5 @@
 -- What is written reads back.
-use Rattle.std.proofs.Common.{◌≡◌, ℕ, List, length, take, drop, sym, ap, ◌∙◌, subst, arith}
+use Rattle.std.proofs.Common.{◌≡◌, ℕ, List, take, drop, sym, ap, ◌∙◌, subst}
 use Rattle.std.proofs.lemmas.List.{take_at}
 use Rattle.banks.specs.declared.table.BankTable.{BankTable}
 use Rattle.rounds.specs.declared.record.RoundRecord.{RoundRecord}
@@ -19,11 +19,11 @@ put_stored r t xs before after n e f p =
     subst (λ (u : BankTable). Put (round_text u (list_of r)) before after n) e (subst (λ (ys : List ℕ). Put (round_text t ys) before after n) f p)
 
 -- the text of a record's round reads back
-pub reads_back : (r : RoundRecord) (bytes : List ℕ) → length (list_of r) ≡ r.dwells → bytes ≡ stored_text r → ReadsBack bytes r
-reads_back r bytes l e =
+pub reads_back : (r : RoundRecord) (bytes : List ℕ) → bytes ≡ stored_text r → ReadsBack bytes r
+reads_back r bytes e =
     let stored : IsStored bytes r.table (list_of r) = record {
-      few = omega (arith, r.few);
-      kept = record { some_move = omega (arith, r.some); endless = r.kept };
+      few = r.few;
+      kept = record { some_move = r.some; endless = r.kept };
       text = e;
     } in
     record {

@@ -1,6 +1,6 @@
 -- The lengths of what the planner prints.
 use Rattle.std.proofs.Common.{◌≡◌, ℕ, ◌≤◌, true, List, length, is_ok, Ok, Err, Result, refl, arith}
-use Rattle.std.proofs.lemmas.List.{length-append, length-take}
+use Rattle.std.proofs.lemmas.List.{length-append}
 use Rattle.refusals.specs.declared.Refusal.{Refusal}
 use Rattle.rig.specs.declared.verdict.Verdict.{Verdict}
 use Rattle.rig.specs.declared.verdict.Verdict.TheVariants.{NoRound, Round, Open, Full}
@@ -22,7 +22,7 @@ behind_length : (v : Verdict) (r : RoundRecord) → length (text_behind v r) ≤
 behind_length NoRound r = omega arith
 behind_length Open r = omega arith
 behind_length Full r = omega arith
-behind_length Round r = omega (arith, length_round r.table (list_of r), length-take r.dwells r.banks, r.few, r.table.few)
+behind_length Round r = omega (arith, length_round r.table (list_of r), r.few, r.table.few)
 
 pub answer_length : (v : Verdict) (visits : ℕ) (r : RoundRecord) → length (answer_text v visits r) ≤ most_text
 answer_length v visits r =

@@ -27,5 +27,5 @@ returns c =
       read =
           let bytes = drop 13 (take (at + n) (put_mid at (length out - at) out piece)) in
           let is : bytes ≡ stored_text r = ap (drop 13) (front (answer_text v c.args.visits r) c.args.out.now (put_mid at (length out - at) out piece) (at + n) p) ∙ behind in
-          subst (λ (w : Verdict). StandsBehind w r bytes) (sym c.in-Round.is) (reads_back r bytes (ap length (sym list.value) ∙ list.len) is);
+          subst (λ (w : Verdict). StandsBehind w r bytes) (sym c.in-Round.is) (reads_back r bytes is);
     }

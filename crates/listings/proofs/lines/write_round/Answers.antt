@@ -1,4 +1,3 @@
-use Rattle.std.proofs.Common.{length, sym, ap, ◌∙◌}
 use Rattle.listings.specs.Answers.{stored_text}
 use Rattle.listings.proofs.Readings.{front, put_stored, reads_back}
 use Rattle.listings.proofs.lines.write_round.Goals as goal
@@ -10,5 +9,5 @@ returns c =
     let p = put_stored r c.table-table.result c.list-list.result.now c.args.out.now c.put_round.new.out c.put_round.result c.table-table.ensures list.value c.put_round.ensures in
     record {
       reply = p;
-      read = reads_back r _ (ap length (sym list.value) ∙ list.len) (front (stored_text r) c.args.out.now c.put_round.new.out c.put_round.result p);
+      read = reads_back r _ (front (stored_text r) c.args.out.now c.put_round.new.out c.put_round.result p);
     }
