@@ -16,6 +16,7 @@ use Rattle.banks.specs.Stored.{head_line, bank_lines, TableRead}
 use Rattle.rounds.specs.declared.record.RoundRecord.{RoundRecord}
 use Rattle.rounds.specs.Record.{Holds, list_of}
 use Rattle.rounds.specs.Parts.{part_lines, parts_of, PartsFault}
+use Rattle.rounds.proofs.PartLines.{fault_along}
 use Rattle.rounds.specs.Stored.{round_text, last_line, in_file_at, Ended, EndFault, IsStored, LinesRead, FirstFault}
 use Rattle.rounds.specs.Stored.EndFault.{unlawful}
 use Rattle.rounds.specs.Stored.FirstFault.{in_list}
@@ -49,9 +50,7 @@ module _ (bytes : List ℕ) (t : BankTable) (dwells : ℕ) (behind : List ℕ) (
 
   -- A bad line of the list.
   pub list_fault : (count long : ℕ) → count ≡ t.count → long ≡ dwells → (r : Refusal) → PartsFault count long lines r → FirstFault bytes r
-  list_fault count long is due r bad =
-      in_list t dwells behind table
-      (subst (λ (ys : List ℕ). PartsFault t.count dwells ys r) same (subst (λ (n : ℕ). PartsFault t.count n lines r) due (subst (λ (n : ℕ). PartsFault n long lines r) is bad)))
+  list_fault count long is due r bad = in_list t dwells behind table (fault_along is due same bad)
 
 -- A round whose end is good.
 pub stored_whole : (bytes : List ℕ) (t : BankTable) (xs rest : List ℕ) → LinesRead bytes t xs rest → Ended t xs rest → IsStored bytes t xs

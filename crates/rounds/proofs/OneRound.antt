@@ -1,14 +1,15 @@
 -- A stored round's text has no fault, and it is the text of one table and one list only.
-use Rattle.std.proofs.Common.{◌≡◌, ℕ, zero, suc, ◌+◌, ◌-◌, ◌*◌, ◌/◌, ◌%◌, ◌<◌, ◌≤◌, min, List, [], ◌∷◌, ◌++◌, length, get_or, drop, sym, refl, ap, ◌∙◌, subst, ap₂, ⊎_elim, append_assoc, append-nil, not-suc-le-zero, mod-eq_of_lt, arith}
+use Rattle.std.proofs.Common.{◌≡◌, ℕ, zero, suc, ◌+◌, ◌-◌, ◌*◌, ◌/◌, ◌%◌, ◌<◌, ◌≤◌, min, List, [], ◌∷◌, ◌++◌, length, get_or, drop, sym, refl, ap, ◌∙◌, subst, ap₂, ⊎_elim, append_assoc, append-nil, mod-eq_of_lt, arith}
 use Rattle.std.specs.List.{flat_map}
 use Rattle.std.proofs.lemmas.List.{append_cancel_right, length-append, length-take, length-drop, get_or-take, get_or-drop, ext_get_or, nil_from_length}
-use Rattle.std.proofs.lemmas.Bool.{cases_lt, cases_order, cond-true, eq-eqb, lt-ltb}
+use Rattle.std.proofs.lemmas.Bool.{cases_order, cond-true, eq-eqb, lt-ltb}
 use Rattle.refusals.specs.declared.Refusal.{Refusal}
 use Rattle.frames.specs.Digits.{AllDigits, numeral, value}
 use Rattle.frames.specs.Frames.{digits_after}
 use Rattle.frames.specs.BadLines.{BadLine}
 use Rattle.frames.proofs.Numerals.{all_none, numeral_digits, numeral_same}
 use Rattle.frames.proofs.Splits.{same_split}
+use Rattle.frames.proofs.LinesTo.{lines_at, one_lines}
 use Rattle.frames.proofs.Apart.{digits_append, value_small_numeral, GoodLine}
 use Rattle.frames.proofs.OneFault.{good_line_not_bad, one_bad_line}
 use Rattle.rig.specs.Orders.{reached, again, LawfulForEver}
@@ -18,7 +19,7 @@ use Rattle.banks.specs.declared.table.Bank.{Bank}
 use Rattle.banks.specs.declared.table.BankTable.{BankTable}
 use Rattle.banks.specs.Limits.{bank_at}
 use Rattle.readers.specs.Panelled.{panelled}
-use Rattle.frames.specs.Lines.{most_bytes}
+use Rattle.frames.specs.Lines.{most_bytes, lines_to}
 use Rattle.banks.specs.Stored.{head_line, bank_line, bank_lines, TableRead, TableFault}
 use Rattle.banks.proofs.OneTable.{one_table, table_same, read_no_fault, one_table_fault}
 use Rattle.refusals.specs.Numbers.{not_lawful_in_file}
@@ -26,27 +27,23 @@ use Rattle.rounds.specs.Stored.{round_text, last_line, IsStored, LinesRead, EndF
 use Rattle.rounds.specs.Stored.EndFault.{unlawful, after_end}
 use Rattle.rounds.specs.Stored.FirstFault.{in_table, in_list, at_end}
 use Rattle.rounds.specs.Parts.{part_size, part_line, part, part_lines, parts_of, part_due, bad_bank, part_column, OnlyBanks, PartsFault}
-use Rattle.rounds.proofs.PartLines.{length_pairs}
-
--- numbers that two digits can write
-abbrev Small : List ℕ → Type 0
-Small xs = (k : ℕ) → k < length xs → get_or xs k 0 < 256
-
-small_tail : (x : ℕ) (xs : List ℕ) → Small (x ∷ xs) → Small xs
-small_tail x xs h k l = h (suc k) (omega arith)
+use Rattle.rounds.proofs.PartLines.{length_pairs, fault_along}
 
 pairs_digits : (xs : List ℕ) → AllDigits (flat_map (numeral 2) xs)
 pairs_digits [] = all_none
 pairs_digits (x ∷ xs) = digits_append (numeral 2 x) (flat_map (numeral 2) xs) (numeral_digits 2 x) (pairs_digits xs)
 
+only_tail : (banks x : ℕ) (xs : List ℕ) → OnlyBanks banks (x ∷ xs) → OnlyBanks banks xs
+only_tail banks x xs h k l = h (suc k) (omega arith)
+
 -- pairs of digits tell their numbers
-pairs_same : (xs ys : List ℕ) → Small xs → Small ys → length xs ≡ length ys → flat_map (numeral 2) xs ≡ flat_map (numeral 2) ys → xs ≡ ys
+pairs_same : (xs ys : List ℕ) → OnlyBanks 256 xs → OnlyBanks 256 ys → length xs ≡ length ys → flat_map (numeral 2) xs ≡ flat_map (numeral 2) ys → xs ≡ ys
 pairs_same [] ys hx hy l e = sym (nil_from_length ys (sym l))
 pairs_same (x ∷ xs) [] hx hy l e = absurd (omega arith)
 pairs_same (x ∷ xs) (y ∷ ys) hx hy l e =
     let q = same_split (numeral 2 x) (numeral 2 y) (flat_map (numeral 2) xs) (flat_map (numeral 2) ys) refl e in
     ap₂ (λ (a : ℕ) (zs : List ℕ). a ∷ zs) (numeral_same 2 x y (hx 0 (omega arith)) (hy 0 (omega arith)) q.0)
-    (pairs_same xs ys (small_tail x xs hx) (small_tail y ys hy) (omega arith) q.1)
+    (pairs_same xs ys (only_tail 256 x xs hx) (only_tail 256 y ys hy) (omega arith) q.1)
 
 length_part_line : (xs : List ℕ) → length (part_line xs) ≡ 5 + 2 * length xs
 length_part_line xs = omega (arith, length-append (flat_map (numeral 2) xs) (10 ∷ []), length_pairs xs)
@@ -54,52 +51,26 @@ length_part_line xs = omega (arith, length-append (flat_map (numeral 2) xs) (10 
 length_part : (xs : List ℕ) (k : ℕ) → length (part xs k) ≡ min part_size (length xs - part_size * k)
 length_part xs k = length-take part_size (drop (part_size * k) xs) ∙ ap (min part_size) (length-drop (part_size * k) xs)
 
-lines_next : (xs : List ℕ) (n : ℕ) → part_lines xs (suc n) ≡ part_lines xs n ++ part_line (part xs n)
+-- all parts before the last are full
+pub length_parts : (xs : List ℕ) (n : ℕ) → length (part_lines xs n) ≡ 5 * n + 2 * min (part_size * n) (length xs)
 unfolding part_lines
-lines_next xs n = refl
+length_parts xs zero = omega arith
+length_parts xs (suc n) = omega (arith, length-append (part_lines xs n) (part_line (part xs n)), length_part_line (part xs n), length_part xs n, length_parts xs n)
 
-lines_none : (xs : List ℕ) → part_lines xs 0 ≡ []
-unfolding part_lines
-lines_none xs = refl
+-- the lines of the first parts are lines one behind the other
+abbrev line_at : List ℕ → ℕ → List ℕ
+line_at xs k = part_line (part xs k)
 
-length_next : (xs : List ℕ) (n : ℕ) → length (part_lines xs (suc n)) ≡ length (part_lines xs n) + (5 + 2 * length (part xs n))
-length_next xs n = ap length (lines_next xs n) ∙ length-append (part_lines xs n) (part_line (part xs n)) ∙ ap (λ (k : ℕ). length (part_lines xs n) + k) (length_part_line (part xs n))
-
--- full parts are 37 bytes long
-length_full : (xs : List ℕ) (n : ℕ) → part_size * n ≤ length xs → length (part_lines xs n) ≡ 37 * n
-length_full xs zero h = ap length (lines_none xs)
-length_full xs (suc n) h = omega (arith, length_next xs n, length_part xs n, length_full xs n (omega arith))
-
--- and no part is longer
-pub length_most : (xs : List ℕ) (n : ℕ) → length (part_lines xs n) ≤ 37 * n
-length_most xs zero = omega (arith, ap length (lines_none xs))
-length_most xs (suc n) = omega (arith, length_next xs n, length_part xs n, length_most xs n)
-
--- how long the lines are depends on the number of banks alone
-length_lines : (xs ys : List ℕ) (n : ℕ) → length xs ≡ length ys → length (part_lines xs n) ≡ length (part_lines ys n)
-length_lines xs ys zero l = ap length (lines_none xs ∙ sym (lines_none ys))
-length_lines xs ys (suc n) l =
-    omega (arith, length_next xs n, length_next ys n, length_part xs n, length_part ys n, length_lines xs ys n l)
+lines_are : (xs : List ℕ) (n : ℕ) → part_lines xs n ≡ lines_to (line_at xs) n
+unfolding part_lines lines_to
+lines_are xs zero = refl
+lines_are xs (suc n) = ap (λ ys. ys ++ line_at xs n) (lines_are xs n)
 
 -- the line of part n, behind those before it
-lines_at : (xs : List ℕ) (n m : ℕ) → n < m → (more : List ℕ) × (part_lines xs m ≡ part_lines xs n ++ (part_line (part xs n) ++ more))
-lines_at xs n zero h = absurd (not-suc-le-zero h)
-lines_at xs n (suc m) h =
-    ⊎_elim
-    (λ early.
-    let q = lines_at xs n m early in (
-      q.0 ++ part_line (part xs m),
-      lines_next xs m ∙ ap (λ (ys : List ℕ). ys ++ part_line (part xs m)) q.1
-          ∙ append_assoc (part_lines xs n) (part_line (part xs n) ++ q.0) (part_line (part xs m))
-          ∙ ap (λ (ys : List ℕ). part_lines xs n ++ ys) (append_assoc (part_line (part xs n)) q.0 (part_line (part xs m))),
-    ))
-    (λ late.
-    let e : m ≡ n = omega arith in (
-      [],
-      subst (λ (k : ℕ). part_lines xs (suc k) ≡ part_lines xs n ++ (part_line (part xs n) ++ [])) (sym e)
-          (lines_next xs n ∙ ap (λ (ys : List ℕ). part_lines xs n ++ ys) (sym (append-nil (part_line (part xs n))))),
-    ))
-    (cases_lt n m)
+part_at : (xs : List ℕ) (n m : ℕ) → n < m → (more : List ℕ) × (part_lines xs m ≡ part_lines xs n ++ (line_at xs n ++ more))
+part_at xs n m h =
+    let q = lines_at (line_at xs) n m h in
+    (q.0, lines_are xs m ∙ q.1 ∙ ap (λ ys. ys ++ (line_at xs n ++ q.0)) (sym (lines_are xs n)))
 
 -- no column is told where every bank is one of the table
 good_pairs : (banks c : ℕ) (zs : List ℕ) → banks ≤ 256 → OnlyBanks banks zs → bad_bank banks (length zs) c (flat_map (numeral 2) zs) ≡ 0
@@ -138,9 +109,8 @@ part_only banks xs k only i h =
 front_no_fault : (banks dwells m : ℕ) (xs rest bytes : List ℕ) (r : Refusal) → banks ≤ 256 → OnlyBanks banks xs → bytes ≡ part_lines xs m ++ rest → (f : PartsFault banks dwells bytes r) → f.good < m → part_size * f.good ≤ length xs → min part_size (length xs - part_size * f.good) ≡ part_due (dwells - part_size * f.good) → ⊥
 front_no_fault banks dwells m xs rest bytes r hb only text f within full due_is =
     let n = f.good in
-    let at = lines_at xs n m within in
-    let left : length (part_lines xs n) ≡ length (part_lines f.listed n) =
-    length_full xs n full ∙ sym (length_full f.listed n (let e = f.full in omega arith)) in
+    let at = part_at xs n m within in
+    let left : length (part_lines xs n) ≡ length (part_lines f.listed n) = omega (arith, length_parts xs n, length_parts f.listed n, f.full) in
     let whole : part_lines xs n ++ ((part_line (part xs n) ++ at.0) ++ rest) ≡ part_lines f.listed n ++ f.rest =
     sym (append_assoc (part_lines xs n) (part_line (part xs n) ++ at.0) rest) ∙ ap (λ (ys : List ℕ). ys ++ rest) (sym at.1) ∙ sym text ∙ f.text in
     let tail = (same_split (part_lines xs n) (part_lines f.listed n) ((part_line (part xs n) ++ at.0) ++ rest) f.rest left whole).1 in
@@ -165,8 +135,7 @@ one_parts_fault banks dwells bytes r s hb f g =
     let mb = g.more in
     ⊎_elim
     (λ same.
-    let lengths : length (part_lines f.listed f.good) ≡ length (part_lines g.listed g.good) =
-    length_full f.listed f.good (omega arith) ∙ ap (λ (n : ℕ). 37 * n) same ∙ sym (length_full g.listed g.good (omega arith)) in
+    let lengths : length (part_lines f.listed f.good) ≡ length (part_lines g.listed g.good) = omega (arith, length_parts f.listed f.good, length_parts g.listed g.good) in
     let rests = (same_split (part_lines f.listed f.good) (part_lines g.listed g.good) f.rest g.rest lengths (sym f.text ∙ g.text)).1 in
     let bad = subst (λ (n : ℕ). BadLine 19 (part_column banks (part_due (dwells - part_size * n))) g.rest ((2 + banks) + n) r) same
     (subst (λ (ys : List ℕ). BadLine 19 (part_column banks (part_due (dwells - part_size * f.good))) ys ((2 + banks) + f.good) r) rests f.bad) in
@@ -181,14 +150,6 @@ one_parts_fault banks dwells bytes r s hb f g =
 line_pairs : (zs ws : List ℕ) → part_line zs ≡ part_line ws → flat_map (numeral 2) zs ≡ flat_map (numeral 2) ws
 line_pairs zs ws e = append_cancel_right (flat_map (numeral 2) zs) (flat_map (numeral 2) ws) (10 ∷ []) (ap (drop 4) e)
 
-parts_same : (xs ys : List ℕ) (n : ℕ) → Small xs → Small ys → length xs ≡ length ys → part_lines xs n ≡ part_lines ys n → (k : ℕ) → k < n → part xs k ≡ part ys k
-parts_same xs ys zero hx hy l e k below = absurd (not-suc-le-zero below)
-parts_same xs ys (suc n) hx hy l e k below =
-    let q = same_split (part_lines xs n) (part_lines ys n) (part_line (part xs n)) (part_line (part ys n)) (length_lines xs ys n l) (sym (lines_next xs n) ∙ e ∙ lines_next ys n) in
-    let last : part xs n ≡ part ys n =
-    pairs_same (part xs n) (part ys n) (part_only 256 xs n hx) (part_only 256 ys n hy) (length_part xs n ∙ ap (λ (m : ℕ). min part_size (m - part_size * n)) l ∙ sym (length_part ys n)) (line_pairs (part xs n) (part ys n) q.1) in
-    ⊎_elim (λ early. parts_same xs ys n hx hy l q.0 k early) (λ late. let is : n ≡ k = omega arith in subst (λ (m : ℕ). part xs m ≡ part ys m) is last) (cases_lt k n)
-
 -- a bank of the list, in its part
 in_part : (xs : List ℕ) (i : ℕ) → get_or xs i 0 ≡ get_or (part xs (i / part_size)) (i % part_size) 0
 in_part xs i =
@@ -197,18 +158,20 @@ in_part xs i =
     sym (get_or-take part_size (drop (part_size * (i / part_size)) xs) (i % part_size) 0 near ∙ get_or-drop (part_size * (i / part_size)) xs (i % part_size) 0 ∙ ap (λ (j : ℕ). get_or xs j 0) (sym place))
 
 -- lines tell their list
-pub one_list : (xs ys x y : List ℕ) → Small xs → Small ys → length xs ≡ length ys → part_lines xs (parts_of (length xs)) ++ x ≡ part_lines ys (parts_of (length ys)) ++ y → (xs ≡ ys) × (x ≡ y)
+pub one_list : (xs ys x y : List ℕ) → OnlyBanks 256 xs → OnlyBanks 256 ys → length xs ≡ length ys → part_lines xs (parts_of (length xs)) ++ x ≡ part_lines ys (parts_of (length ys)) ++ y → (xs ≡ ys) × (x ≡ y)
 one_list xs ys x y hx hy l e =
     let n = parts_of (length xs) in
-    let e' : part_lines xs n ++ x ≡ part_lines ys n ++ y = e ∙ ap (λ (m : ℕ). part_lines ys (parts_of m) ++ y) (sym l) in
-    let q = same_split (part_lines xs n) (part_lines ys n) x y (length_lines xs ys n l) e' in (
+    let long : (k : ℕ) → length (part xs k) ≡ length (part ys k) = λ k. omega (arith, length_part xs k, length_part ys k) in
+    let q = one_lines (line_at xs) (line_at ys) (λ k. omega (arith, length_part_line (part xs k), length_part_line (part ys k), long k)) n x y
+    (ap (λ zs. zs ++ x) (sym (lines_are xs n)) ∙ e ∙ ap (λ m. part_lines ys (parts_of m) ++ y) (sym l) ∙ ap (λ zs. zs ++ y) (lines_are ys n)) in (
       ext_get_or 0 xs ys l (λ i h.
-          let within : i / part_size < n = omega arith in
-          in_part xs i ∙ ap (λ (zs : List ℕ). get_or zs (i % part_size) 0) (parts_same xs ys n hx hy l q.0 (i / part_size) within) ∙ sym (in_part ys i)),
+          let k = i / part_size in
+          let same = pairs_same (part xs k) (part ys k) (part_only 256 xs k hx) (part_only 256 ys k hy) (long k) (line_pairs (part xs k) (part ys k) (q.0 k (omega arith))) in
+          in_part xs i ∙ ap (λ zs. get_or zs (i % part_size) 0) same ∙ sym (in_part ys i)),
       q.1,
     )
 
-length_banks : (bs : List Bank) (n : ℕ) → length (bank_lines bs n) ≡ 15 * n
+pub length_banks : (bs : List Bank) (n : ℕ) → length (bank_lines bs n) ≡ 15 * n
 unfolding bank_lines
 length_banks bs zero = refl
 length_banks bs (suc n) = length-append (bank_lines bs n) (bank_line n (bank_at bs n)) ∙ (omega (arith, length_banks bs n))
@@ -218,7 +181,7 @@ kept_banks : (t : BankTable) (xs : List ℕ) → LawfulForEver (panelled t) xs �
 kept_banks t xs h k l =
     subst (λ (j : ℕ). j < t.count) (ap (λ (i : ℕ). get_or xs i 0) (mod-eq_of_lt l)) (lawful_move (panelled t) (reached (panelled t) (panelled t).rest (again xs) k) (again xs k) (h.endless k))
 
-few_small : (t : BankTable) (xs : List ℕ) → OnlyBanks t.count xs → Small xs
+few_small : (t : BankTable) (xs : List ℕ) → OnlyBanks t.count xs → OnlyBanks 256 xs
 few_small t xs h k l = let f = t.few in omega (arith, h k l)
 
 -- the lines of a table and a list, as those of the table and the rest
@@ -262,6 +225,10 @@ same_lines bytes t u xs ys x y g h a b =
       rest = lists.1;
     }
 
+end_along : {t u : BankTable} {xs ys x y : List ℕ} {r : Refusal} → SameLines t u xs ys x y → EndFault t xs x r → EndFault u ys y r
+end_along {t} {u} {xs} {ys} {x} {y} {r} same f =
+    subst (λ (v : BankTable). EndFault v ys y r) same.table (subst (λ (zs : List ℕ). EndFault t zs y r) same.list (subst (λ (zs : List ℕ). EndFault t xs zs r) same.rest f))
+
 -- the end has one fault
 one_end_fault : (t : BankTable) (xs rest : List ℕ) (r s : Refusal) → EndFault t xs rest r → EndFault t xs rest s → r ≡ s
 one_end_fault t xs rest r s (unlawful l p a e) (unlawful k q b g) =
@@ -275,9 +242,7 @@ list_or_end : (bytes : List ℕ) (t : BankTable) (d : ℕ) (rest : List ℕ) (r 
 list_or_end bytes t d rest r u ys y h f g a =
     let lines = part_lines ys (parts_of (length ys)) ++ y in
     let same = one_table bytes t u d (length ys) rest lines h (lines_table bytes u ys y g a.some) in
-    let f' = subst (λ (n : ℕ). PartsFault n (length ys) lines r) same.count
-    (subst (λ (n : ℕ). PartsFault t.count n lines r) same.dwells (subst (λ (zs : List ℕ). PartsFault t.count d zs r) same.rest f)) in
-    lines_no_fault u.count ys y r (let few = u.few in omega arith) a.only f'
+    lines_no_fault u.count ys y r (let few = u.few in omega arith) a.only (fault_along same.count same.dwells same.rest f)
 
 table_or_end : (bytes : List ℕ) (r : Refusal) (u : BankTable) (ys y : List ℕ) → TableFault bytes r → LinesRead bytes u ys y → Ending u ys → ⊥
 table_or_end bytes r u ys y f g a = read_no_fault bytes u (length ys) (part_lines ys (parts_of (length ys)) ++ y) r (lines_table bytes u ys y g a.some) f
@@ -290,15 +255,13 @@ one_first_fault bytes r s (in_table f) (at_end u ys y h g) = absurd (table_or_en
 one_first_fault bytes r s (in_list t d x h f) (in_table g) = absurd (read_no_fault bytes t d x s h g)
 one_first_fault bytes r s (in_list t d x h f) (in_list u e y k g) =
     let same = one_table bytes t u d e x y h k in
-    let f' = subst (λ (n : ℕ). PartsFault n e y r) same.count (subst (λ (n : ℕ). PartsFault t.count n y r) same.dwells (subst (λ (zs : List ℕ). PartsFault t.count d zs r) same.rest f)) in
-    one_parts_fault u.count e y r s (let few = u.few in omega arith) f' g
+    one_parts_fault u.count e y r s (let few = u.few in omega arith) (fault_along same.count same.dwells same.rest f) g
 one_first_fault bytes r s (in_list t d x h f) (at_end u ys y k g) = absurd (list_or_end bytes t d x r u ys y h f k (fault_ending u ys y s g))
 one_first_fault bytes r s (at_end t xs x h f) (in_table g) = absurd (table_or_end bytes s t xs x g h (fault_ending t xs x r f))
 one_first_fault bytes r s (at_end t xs x h f) (in_list u e y k g) = absurd (list_or_end bytes u e y s t xs x k g h (fault_ending t xs x r f))
 one_first_fault bytes r s (at_end t xs x h f) (at_end u ys y k g) =
     let same = same_lines bytes t u xs ys x y h k (fault_ending t xs x r f) (fault_ending u ys y s g) in
-    let f' = subst (λ (v : BankTable). EndFault v ys y r) same.table (subst (λ (zs : List ℕ). EndFault t zs y r) same.list (subst (λ (zs : List ℕ). EndFault t xs zs r) same.rest f)) in
-    one_end_fault u ys y r s f' g
+    one_end_fault u ys y r s (end_along same f) g
 
 module _ (bytes : List ℕ) (t : BankTable) (xs : List ℕ) (s : IsStored bytes t xs) where
   -- a stored round is never too long
@@ -308,7 +271,7 @@ module _ (bytes : List ℕ) (t : BankTable) (xs : List ℕ) (s : IsStored bytes 
       let lines = part_lines xs (parts_of (length xs)) in
       let f = t.few in
       let d = s.few in
-      omega (arith, ap length s.text, length-append banks lines, length_banks t.banks t.count, length_most xs (parts_of (length xs)))
+      omega (arith, ap length s.text, length-append banks lines, length_banks t.banks t.count, length_parts xs (parts_of (length xs)))
 
   -- its lines, with nothing behind them
   stored_lines : LinesRead bytes t xs []
@@ -317,17 +280,15 @@ module _ (bytes : List ℕ) (t : BankTable) (xs : List ℕ) (s : IsStored bytes 
   ending : Ending t xs
   ending = kept_ending t xs s.kept
 
-  no_end_fault : (ys rest : List ℕ) (r : Refusal) → xs ≡ ys → [] ≡ rest → EndFault t ys rest r → ⊥
-  no_end_fault ys rest r same none (unlawful lap p bad e) = unlawful_refutes (panelled t) ys lap p bad (subst (LawfulForEver (panelled t)) same s.kept)
-  no_end_fault ys rest r same none (after_end kept more e) = omega (arith, ap length none)
+  no_end_fault : (r : Refusal) → EndFault t xs [] r → ⊥
+  no_end_fault r (unlawful lap p bad e) = unlawful_refutes (panelled t) xs lap p bad s.kept
+  no_end_fault r (after_end kept more e) = absurd (omega arith)
 
   -- a stored round has no fault
   pub stored_no_fault : (r : Refusal) → FirstFault bytes r → ⊥
   stored_no_fault r (in_table f) = table_or_end bytes r t xs [] f stored_lines ending
   stored_no_fault r (in_list u d rest h f) = list_or_end bytes u d rest r t xs [] h f stored_lines ending
-  stored_no_fault r (at_end u ys rest h f) =
-      let same = same_lines bytes t u xs ys [] rest stored_lines h ending (fault_ending u ys rest r f) in
-      no_end_fault ys rest r same.list same.rest (subst (λ (v : BankTable). EndFault v ys rest r) (sym same.table) f)
+  stored_no_fault r (at_end u ys rest h f) = no_end_fault r (end_along (same_lines bytes u t ys xs rest [] h stored_lines (fault_ending u ys rest r f) ending) f)
 
   -- and it is the text of one table and one list only
   pub one_round : (u : BankTable) (ys : List ℕ) → IsStored bytes u ys → (t ≡ u) × (xs ≡ ys)

@@ -1,6 +1,5 @@
 -- The lines of a list: the banks that the digits of a part tell, and the step from part to part.
 use Rattle.std.proofs.Common.{◌≡◌, ℕ, zero, suc, ◌+◌, ◌-◌, ◌*◌, ◌/◌, ◌%◌, ◌<◌, ◌≤◌, min, cond, eqb, ltb, List, [], ◌∷◌, ◌++◌, length, take, drop, sym, refl, ap, ◌∙◌, subst, ap₂, ⊎_elim, append_assoc, append-nil, not-suc-le-zero, add-one, arith, Bor}
-use native.Mathlib.Nat.{sub-zero}
 use Rattle.std.specs.List.{flat_map}
 use Rattle.std.proofs.lemmas.List.{nil_from_length, length-drop, length-append, get_or_append_left, get_or-append_right, take_all, take_at, take_rest, drop_at, take-append-le, drop-append-le, flat_map_more, length_push}
 use Rattle.std.proofs.lemmas.Bool.{lt-ltb, le-ltb, cond-true, cond-false, cases_lt}
@@ -52,17 +51,6 @@ module _ (banks : ℕ) (digits before : List ℕ) where
     pub digits_left : AllDigits rest
     pub text : digits ≡ flat_map (numeral 2) put ++ rest
     pub column : bad_bank banks (length digits / 2) 5 digits ≡ bad_bank banks (length digits / 2 - k) (5 + 2 * k) rest
-
-  pub put_none : AllDigits digits → Putting before digits 0
-  put_none t = record {
-    put = [];
-    behind = sym (append-nil before);
-    long = refl;
-    only = λ k l. absurd (not-suc-le-zero l);
-    digits_left = t;
-    text = refl;
-    column = ap (λ n. bad_bank banks n 5 digits) (sym (sub-zero (length digits / 2)));
-  }
 
   -- the next two digits
   module _ (list rest two after : List ℕ) (k n : ℕ) (h : Putting list rest k) (cut : rest ≡ two ++ after) (l : length two ≡ 2) where
@@ -217,38 +205,34 @@ one_part_more xs put n full few =
     part_lines_more (xs ++ put) n ∙ ap₂ (λ (a b : List ℕ). a ++ part_line b) (part_lines_front xs put n (omega arith)) last
 
 module _ (banks dwells : ℕ) (bytes : List ℕ) where
-  -- Some parts of a list are read: all that are read are full, unless nothing is left to read.
-  pub record PartsGoing (xs : List ℕ) (lines : Unread) : Type 0 where
-    pub parts : ℕ
-    pub due : parts ≤ parts_of dwells
-    pub long : length xs ≡ min dwells (part_size * parts)
+  -- So many parts of a list are read; all but the last are full.
+  pub record PartsGoing (xs : List ℕ) (lines : Unread) (n : ℕ) : Type 0 where
+    pub long : length xs ≡ min dwells (part_size * n)
     pub only : OnlyBanks banks xs
-    pub text : bytes ≡ part_lines xs parts ++ lines.rest.now
-    pub line : lines.line ≡ (2 + banks) + parts
+    pub text : bytes ≡ part_lines xs n ++ lines.rest.now
+    pub line : lines.line ≡ (2 + banks) + n
 
-  pub parts_none : (lines : Unread) → bytes ≡ lines.rest.now → lines.line ≡ 2 + banks → PartsGoing [] lines
+  pub parts_none : (lines : Unread) → bytes ≡ lines.rest.now → lines.line ≡ 2 + banks → PartsGoing [] lines 0
   unfolding part_lines
-  parts_none lines e l = record { parts = 0; due = omega arith; long = omega arith; only = λ k h. absurd (not-suc-le-zero h); text = e; line = omega arith }
+  parts_none lines e l = record { long = omega arith; only = λ k h. absurd (not-suc-le-zero h); text = e; line = omega arith }
 
-  module _ (xs : List ℕ) (lines : Unread) (g : PartsGoing xs lines) (more : length xs < dwells) (due : ℕ) (is : due ≡ min part_size (dwells - length xs)) where
-    full : length xs ≡ part_size * g.parts
+  module _ (xs : List ℕ) (lines : Unread) (n : ℕ) (g : PartsGoing xs lines n) (more : n < parts_of dwells) (due : ℕ) (is : due ≡ min part_size (dwells - length xs)) where
+    full : length xs ≡ part_size * n
     full = omega (arith, g.long)
 
-    pub parts_more : (ys : List ℕ) (next : Unread) → PartPut banks due lines xs next ys → PartsGoing ys next
+    pub parts_more : (ys : List ℕ) (next : Unread) → PartPut banks due lines xs next ys → PartsGoing ys next (n + 1)
     parts_more ys next p =
-        subst (λ (zs : List ℕ). PartsGoing zs next) (sym p.behind) (record {
-          parts = g.parts + 1;
-          due = omega (arith, full);
+        subst (λ (zs : List ℕ). PartsGoing zs next (n + 1)) (sym p.behind) (record {
           long = omega (arith, full, length-append xs p.put, p.long, is);
           only = only_more banks xs p.put g.only p.only;
-          text = g.text ∙ ap (λ zs. part_lines xs g.parts ++ zs) p.text ∙ sym (append_assoc (part_lines xs g.parts) (part_line p.put) next.rest.now)
-              ∙ ap (λ zs. zs ++ next.rest.now) (sym (one_part_more xs p.put g.parts full (omega (arith, p.long, is))));
+          text = g.text ∙ ap (λ zs. part_lines xs n ++ zs) p.text ∙ sym (append_assoc (part_lines xs n) (part_line p.put) next.rest.now)
+              ∙ ap (λ zs. zs ++ next.rest.now) (sym (one_part_more xs p.put n full (omega (arith, p.long, is))));
           line = omega (arith, p.line, g.line);
         })
 
     pub parts_fault : (r : Refusal) → BadLine 19 (part_column banks due) lines.rest.now lines.line r → PartsFault banks dwells bytes r
     parts_fault r bad = record {
-      good = g.parts;
+      good = n;
       listed = xs;
       rest = lines.rest.now;
       full = full;
@@ -256,7 +240,12 @@ module _ (banks dwells : ℕ) (bytes : List ℕ) where
       only = g.only;
       text = g.text;
       bad =
-          let same : due ≡ part_due (dwells - part_size * g.parts) = is ∙ ap (λ n. part_due (dwells - n)) full in
-          subst (λ (d : ℕ). BadLine 19 (part_column banks d) lines.rest.now ((2 + banks) + g.parts) r) same
-          (subst (λ (n : ℕ). BadLine 19 (part_column banks due) lines.rest.now n r) g.line bad);
+          let same : due ≡ part_due (dwells - part_size * n) = is ∙ ap (λ n. part_due (dwells - n)) full in
+          subst (λ (d : ℕ). BadLine 19 (part_column banks d) lines.rest.now ((2 + banks) + n) r) same
+          (subst (λ (m : ℕ). BadLine 19 (part_column banks due) lines.rest.now m r) g.line bad);
     }
+
+-- A fault of the same list of the same lines.
+pub fault_along : {m n d e : ℕ} {x y : List ℕ} {r : Refusal} → m ≡ n → d ≡ e → x ≡ y → PartsFault m d x r → PartsFault n e y r
+fault_along {m} {n} {d} {e} {x} {y} {r} count dwells lines f =
+    subst (λ (k : ℕ). PartsFault k e y r) count (subst (λ (k : ℕ). PartsFault m k y r) dwells (subst (λ (ys : List ℕ). PartsFault m d ys r) lines f))

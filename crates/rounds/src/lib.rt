@@ -5,6 +5,6 @@ mod parts;
 mod record;
 mod stored;
 
-pub use parts::PART_SIZE;
+pub use parts::{PART_SIZE, parts_of};
 pub use record::RoundRecord;
 pub use stored::read_round;

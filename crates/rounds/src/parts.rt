@@ -1,17 +1,24 @@
 // Reads the list of a stored round: its lines behind those of the bank table.
-ghost use Rattle.std.specs.Prelude.{◌≡◌, ◌+◌, ◌*◌, ◌/◌, ◌%◌, ◌≤◌, length, MatchResult};
+ghost use Rattle.std.specs.Prelude.{◌≡◌, ◌+◌, ◌/◌, ◌%◌, ◌≤◌, length, MatchResult};
 ghost use Rattle.frames.specs.Digits.{AllDigits};
 ghost use Rattle.frames.specs.Faults.{file_told};
 ghost use Rattle.frames.specs.BadLines.{BadLine};
 ghost use Rattle.frames.specs.Fields.{ToldColumn};
 ghost use Rattle.banks.specs.Stored.{most_dwells};
-ghost use Rattle.rounds.specs.Parts.{part_size, parts_of, bad_bank, part_column, BanksPut, PartPut, PartsRead, PartsFault};
+ghost use Rattle.rounds.specs.Parts.{parts_of, bad_bank, part_column, BanksPut, PartPut, PartsRead, PartsFault};
 
 use crate::record::Lap;
 use frames::{Field, FileFault, Frame, Unread, number, read_fields};
 
 // The most dwells of one line.
 pub const PART_SIZE: usize = 16;
+
+// How many lines a list of so many dwells has.
+pub fn parts_of(dwells: usize) -> usize
+    ensures { result ≡ parts_of dwells }
+{
+    dwells.div_ceil(PART_SIZE)
+}
 
 // The column of the first bank of a line.
 const FIRST_BANK: u32 = 5;
@@ -20,7 +27,6 @@ const FIRST_BANK: u32 = 5;
 fn put_banks(digits: &[u8], line: u32, banks: u8, list: &mut Lap) -> Result<(), FileFault>
     requires digits { AllDigits digits.now }
     requires pairs { length digits.now % 2 ≡ 0 }
-    requires few { length digits.now ≤ 2 * part_size }
     requires room { length list.old.items + length digits.now / 2 ≤ most_dwells }
     ensures { MatchResult result (λ _. BanksPut banks digits.now list.old.items list.new.items) (λ e. ToldColumn (bad_bank banks (length digits.now / 2) 5 digits.now) line e) }
 {
@@ -37,8 +43,7 @@ fn put_banks(digits: &[u8], line: u32, banks: u8, list: &mut Lap) -> Result<(), 
 
 // Reads one line of the list: puts as many banks as are due behind the list.
 fn read_part(lines: &mut Unread, banks: u8, due: u32, list: &mut Lap) -> Result<(), FileFault>
-    requires few { due ≤ part_size }
-    requires room { length list.old.items + due ≤ most_dwells }
+    requires { length list.old.items + due ≤ most_dwells }
     ensures { MatchResult result (λ _. PartPut banks due lines.old list.old.items lines.new list.new.items) (λ e. BadLine 19 (part_column banks due) lines.old.rest.now lines.old.line (file_told e)) }
 {
     let line = lines.line();
@@ -62,7 +67,7 @@ pub(crate) fn read_parts(lines: &mut Unread, banks: u8, dwells: usize) -> Result
     ensures { MatchResult result (λ xs. (length xs.items ≡ dwells) × PartsRead banks lines.old.rest.now xs.items lines.new.rest.now × (lines.new.line ≡ (2 + banks) + parts_of dwells)) (λ e. PartsFault banks dwells lines.old.rest.now (file_told e)) }
 {
     let mut list = Lap::new();
-    while list.len() < dwells {
+    for _ in 0..parts_of(dwells) {
         let due = PART_SIZE.min(dwells - list.len());
         read_part(lines, banks, due as u32, &mut list)?;
     }

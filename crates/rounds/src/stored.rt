@@ -13,7 +13,8 @@ use frames::{FileFault, Unread};
 use readers::PanelledReader;
 use rig::{Unfit, check_list};
 
-// The lines behind those of a table that was read: a head line, and a line for each bank. They are passed once more, to be counted.
+// The lines behind those of a table that was read, a head line and a line for each bank. `Unread` begins at the first line
+// of a file, so those lines are passed once more: it counts them, and the lines of the list are read as those of any file.
 fn behind_table<'a>(bytes: &'a [u8], stored: &StoredTable) -> Result<Unread<'a>, FileFault>
     requires { TableRead bytes.now stored.now.table stored.now.dwells (drop stored.now.end bytes.now) }
     ensures { MatchResult result (λ u. (u.rest.now ≡ drop stored.now.end bytes.now) × (u.line ≡ 2 + stored.now.table.count)) (λ e. ⊥) }

@@ -33,7 +33,7 @@ pub put_banks-requires : goal.put_banks-requires
 put_banks-requires c =
     let f = part_frame _ _ _ _ c.in-RoundPart.is c.in_ok-body.ensures.0 in
     let d = due_digits c.args.banks c.args.due _ _ _ f c.in_ok-read_fields.ensures.1 in
-    record { digits = d.digits; pairs = omega (arith, d.long); few = omega (arith, d.long); room = omega (arith, d.long) }
+    record { digits = d.digits; pairs = omega (arith, d.long); room = omega (arith, d.long) }
 
 pub returns : goal.returns
 returns c =
