@@ -1,5 +1,5 @@
 // The bank table of a sheet.
-ghost use Rattle.std.specs.Prelude.{◌≡◌, ℕ, ◌<◌, ◌≤◌};
+ghost use Rattle.std.specs.Prelude.{ℕ, ◌<◌, ◌≤◌};
 ghost use Rattle.banks.specs.Limits.{Empty, bank_at};
 ghost use Rattle.banks.specs.FromSheet.{FromSheet, TableOf};
 

@@ -36,28 +36,6 @@ const HEAD: [Field; 3] = [
     },
 ];
 
-// The fields of a bank's line behind its number: the panel, the dwell and the gap.
-const BANK: [Field; 3] = [
-    Field {
-        place: 2,
-        width: 2,
-        low: 0,
-        high: MOST_PANEL as u32,
-    },
-    Field {
-        place: 4,
-        width: 4,
-        low: 1,
-        high: MOST_DWELL as u32,
-    },
-    Field {
-        place: 8,
-        width: 4,
-        low: 1,
-        high: MOST_GAP as u32,
-    },
-];
-
 // What the lines of a table say: the table, the number of dwells that follow, and how many bytes these lines are.
 #[derive(Clone, Copy)]
 pub struct StoredTable {
@@ -96,8 +74,25 @@ fn read_bank(lines: &mut Unread, i: u32) -> Result<Bank, FileFault>
         low: i,
         high: i,
     };
-    let fields = [number, BANK[0], BANK[1], BANK[2]];
-    let [_, panel, dwell, gap] = read_fields(body, line, &fields)?;
+    let panel = Field {
+        place: 2,
+        width: 2,
+        low: 0,
+        high: MOST_PANEL as u32,
+    };
+    let dwell = Field {
+        place: 4,
+        width: 4,
+        low: 1,
+        high: MOST_DWELL as u32,
+    };
+    let gap = Field {
+        place: 8,
+        width: 4,
+        low: 1,
+        high: MOST_GAP as u32,
+    };
+    let [_, panel, dwell, gap] = read_fields(body, line, &[number, panel, dwell, gap])?;
     Ok(Bank {
         panel: panel as u8,
         dwell: dwell as u16,

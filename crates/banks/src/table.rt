@@ -3,7 +3,7 @@ ghost use Rattle.std.specs.Prelude.{◌≡◌, ℕ, ◌-◌, ◌<◌, ◌≤◌,
 ghost use Rattle.banks.specs.Identity.{bank_eq, bank_eq_equiv};
 ghost use lib.Pointwise.{pointwise};
 ghost use Rattle.std.specs.Ordering.{on, eq_of_both};
-ghost use Rattle.banks.specs.Limits.{BankWithin, Empty, Places, WithinLimits, bank_at, most_dwell, most_gap, no_bank, stock_bank};
+ghost use Rattle.banks.specs.Limits.{WithinLimits, bank_at, most_dwell, most_gap, no_bank, stock_bank};
 ghost use Rattle.sheets.specs.Limits.{fewest_banks, most_banks, most_panel, most_settle};
 ghost use Rattle.std.specs.Cmp.Rules.{comparing};
 ghost use Rattle.std.proofs.Common.{rules, arith};
@@ -40,7 +40,7 @@ pub struct BankTable {
     ghost unused: { (i : ℕ) → count ≤ i → ((bank_at banks i).panel ≡ 0) × ((bank_at banks i).dwell ≡ 0) × ((bank_at banks i).gap ≡ 0) },
 }
 
-// Tables are equal exactly when they are identical. No derive promises that: the facts of a table are no part of its fields.
+// Tables are equal exactly when they are identical. It is written by hand, since its clause promises that, and a derive's does not.
 impl PartialEq for BankTable {
     ghost eq = { eq_of_both (eq_of_both (on (λ t. t.count) nat_eq) (on (λ t. t.settle) nat_eq)) (on (λ t. t.banks) (pointwise bank_eq)) };
 

@@ -1,8 +1,8 @@
 // Reads the lines of a sheet: the head, and the banks.
-ghost use Rattle.std.specs.Prelude.{◌≡◌, ◌+◌, ◌<◌, ◌≤◌, ◌++◌, MatchResult};
+ghost use Rattle.std.specs.Prelude.{◌≡◌, ◌+◌, ◌≤◌, ◌++◌, MatchResult};
 ghost use Rattle.frames.specs.Faults.{file_told};
 ghost use Rattle.frames.specs.BadLines.{BadLine};
-ghost use Rattle.sheets.specs.Limits.{most_banks, most_panel};
+ghost use Rattle.sheets.specs.Limits.{most_panel};
 ghost use Rattle.sheets.specs.SheetLines.{head_line, bank_line, head_column, bank_column, BanksRead, BankFault};
 
 use crate::head::Head;

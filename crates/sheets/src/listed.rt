@@ -6,7 +6,7 @@ ghost use Rattle.sheets.specs.Feeders.{AllServed, HasBank, HasNumber, NoneIn};
 use crate::feeder::Feeder;
 use crate::limits::MOST_FEEDERS;
 
-// Feeders in the first `count` places.
+// Feeders in the first `count` places, as a sheet holds them.
 #[derive(Clone, Copy)]
 pub(crate) struct FeederList {
     pub(crate) feeders: [Feeder; MOST_FEEDERS],
