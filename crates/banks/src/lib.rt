@@ -9,5 +9,5 @@ mod table;
 
 pub use frames::MOST_BYTES;
 pub use sheets::{FEWEST_BANKS, MOST_BANKS, MOST_PANEL, MOST_SETTLE};
-pub use stored::{MOST_DWELLS, StoredTable, read_table};
+pub use stored::{MOST_DWELLS, RoundFront, StoredTable, read_front, read_table};
 pub use table::{Bank, BankTable, MOST_DWELL, MOST_GAP};

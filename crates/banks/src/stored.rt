@@ -44,6 +44,14 @@ pub struct StoredTable {
     pub end: usize,
 }
 
+// The front of a stored round: the table, the number of dwells that its head announces, and the lines that are yet to be read.
+#[derive(Clone, Copy)]
+pub struct RoundFront<'a> {
+    pub table: BankTable,
+    pub dwells: u16,
+    pub lines: Unread<'a>,
+}
+
 // Reads the head line.
 fn read_head(lines: &mut Unread) -> Result<Head, FileFault>
     ensures { MatchResult result (λ h. (lines.old.rest.now ≡ head_line h.banks h.settle h.dwells ++ lines.new.rest.now) × (lines.new.line ≡ lines.old.line + 1)) (λ e. BadLine 17 head_column lines.old.rest.now lines.old.line (file_told e)) }
@@ -103,7 +111,7 @@ fn read_bank(lines: &mut Unread, i: u32) -> Result<Bank, FileFault>
 // Reads the lines of all banks, which come behind the head line.
 fn read_banks(lines: &mut Unread, head: Head) -> Result<[Bank; MOST_BANKS], FileFault>
     requires { lines.old.line ≡ 2 }
-    ensures { MatchResult result (λ bs. BanksRead lines.old.rest.now bs head.banks lines.new.rest.now) (λ e. BankFault lines.old.rest.now head.banks (file_told e)) }
+    ensures { MatchResult result (λ bs. BanksRead lines.old.rest.now bs head.banks lines.new.rest.now × (lines.new.line ≡ 2 + head.banks)) (λ e. BankFault lines.old.rest.now head.banks (file_told e)) }
 {
     let mut banks = [Bank::default(); MOST_BANKS];
     for (i, bank) in banks[..head.banks as usize].iter_mut().enumerate() {
@@ -112,17 +120,29 @@ fn read_banks(lines: &mut Unread, head: Head) -> Result<[Bank; MOST_BANKS], File
     Ok(banks)
 }
 
-// The table of a stored round, the number of dwells that its head announces, and where the bytes after the table begin.
-pub fn read_table(bytes: &[u8]) -> Result<StoredTable, FileFault>
-    ensures { MatchResult result (λ p. (p.end ≤ length bytes.now) × TableRead bytes.now p.table p.dwells (drop p.end bytes.now)) (λ e. TableFault bytes.now (file_told e)) }
+// Reads the front of a stored round.
+pub fn read_front(bytes: &[u8]) -> Result<RoundFront<'_>, FileFault>
+    ensures { MatchResult result (λ f. TableRead bytes.now f.table f.dwells f.lines.rest.now × (f.lines.line ≡ 2 + f.table.count)) (λ e. TableFault bytes.now (file_told e)) }
 {
     let mut lines = Unread::of(bytes)?;
     let head = read_head(&mut lines)?;
     let banks = read_banks(&mut lines, head)?;
     let table = BankTable::of(head.banks, head.settle, banks);
-    Ok(StoredTable {
+    Ok(RoundFront {
         table,
         dwells: head.dwells,
-        end: bytes.len() - lines.rest().len(),
+        lines,
+    })
+}
+
+// The table of a stored round, the number of dwells that its head announces, and where the bytes after the table begin.
+pub fn read_table(bytes: &[u8]) -> Result<StoredTable, FileFault>
+    ensures { MatchResult result (λ p. (p.end ≤ length bytes.now) × TableRead bytes.now p.table p.dwells (drop p.end bytes.now)) (λ e. TableFault bytes.now (file_told e)) }
+{
+    let front = read_front(bytes)?;
+    Ok(StoredTable {
+        table: front.table,
+        dwells: front.dwells,
+        end: bytes.len() - front.lines.rest().len(),
     })
 }

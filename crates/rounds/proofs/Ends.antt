@@ -1,5 +1,5 @@
 -- Where every line of a stored round is good: what the checker's reply says of its end.
-use Rattle.std.proofs.Common.{◌≡◌, ℕ, List, ◌++◌, length, Result, Ok, Err, MatchResult, sym, ap, ap₂, ◌∙◌, subst, ⊎_elim, append_assoc, arith}
+use Rattle.std.proofs.Common.{refl, ◌≡◌, ℕ, List, ◌++◌, length, Result, Ok, Err, MatchResult, sym, ap, ap₂, ◌∙◌, subst, ⊎_elim, append_assoc, arith}
 use Rattle.std.specs.Result.{IsErrAnd}
 use Rattle.std.proofs.lemmas.List.{append-nil, nil_from_length}
 use Rattle.refusals.specs.declared.Refusal.{Refusal}
@@ -34,9 +34,9 @@ module _ (t : BankTable) (xs rest : List ℕ) (only : OnlyMoves t.count xs) wher
   end_told Told line (Err u) r f c m was is last =
       unlawful_told line u f (list_says (panelled t) xs u c) (is u (subst (λ (s : Result ℕ FileFault). IsErrAnd s (Told u)) was m)) last
 
-module _ (bytes : List ℕ) (t : BankTable) (dwells : ℕ) (behind : List ℕ) (table : TableRead bytes t dwells behind) (lines : List ℕ) (same : lines ≡ behind) where
+module _ (bytes : List ℕ) (t : BankTable) (dwells : ℕ) (behind : List ℕ) (table : TableRead bytes t dwells behind) where
   -- The lines of the table and of the list that were read, one behind the other.
-  pub lines_read : (xs rest : List ℕ) → length xs ≡ dwells → lines ≡ part_lines xs (parts_of (length xs)) ++ rest → LinesRead bytes t xs rest
+  pub lines_read : (xs rest : List ℕ) → length xs ≡ dwells → behind ≡ part_lines xs (parts_of (length xs)) ++ rest → LinesRead bytes t xs rest
   lines_read xs rest long text =
       let head = head_line t.count t.settle (length xs) in
       let banks = bank_lines t.banks t.count in
@@ -44,13 +44,13 @@ module _ (bytes : List ℕ) (t : BankTable) (dwells : ℕ) (behind : List ℕ) (
       record {
         size = table.size;
         few = omega (arith, table.few_dwells);
-        text = table.text ∙ ap₂ (λ (n : ℕ) (ys : List ℕ). head_line t.count t.settle n ++ (banks ++ ys)) (sym long) (sym same ∙ text)
+        text = table.text ∙ ap₂ (λ (n : ℕ) (ys : List ℕ). head_line t.count t.settle n ++ (banks ++ ys)) (sym long) text
             ∙ ap (λ ys. head ++ ys) (sym (append_assoc banks parts rest)) ∙ sym (append_assoc head (banks ++ parts) rest);
       }
 
   -- A bad line of the list.
-  pub list_fault : (count long : ℕ) → count ≡ t.count → long ≡ dwells → (r : Refusal) → PartsFault count long lines r → FirstFault bytes r
-  list_fault count long is due r bad = in_list t dwells behind table (fault_along is due same bad)
+  pub list_fault : (count long : ℕ) → count ≡ t.count → long ≡ dwells → (r : Refusal) → PartsFault count long behind r → FirstFault bytes r
+  list_fault count long is due r bad = in_list t dwells behind table (fault_along is due refl bad)
 
 -- A round whose end is good.
 pub stored_whole : (bytes : List ℕ) (t : BankTable) (xs rest : List ℕ) → LinesRead bytes t xs rest → Ended t xs rest → IsStored bytes t xs

@@ -1,30 +1,16 @@
 // Reads a stored round.
-ghost use Rattle.std.specs.Prelude.{◌≡◌, ◌+◌, length, drop, is_ok, Decides, MatchResult};
+ghost use Rattle.std.specs.Prelude.{◌≡◌, ◌+◌, length, is_ok, Decides, MatchResult};
 ghost use Rattle.rig.specs.Checks.{OnlyMoves, told};
 ghost use Rattle.frames.specs.Faults.{file_told};
-ghost use Rattle.banks.specs.Stored.{TableRead};
 ghost use Rattle.rounds.specs.Record.{Holds, list_of};
 ghost use Rattle.rounds.specs.Stored.{IsStored, SomeStored, SomeRegular, OnlyRound, FirstFault, OnlyFault, last_line, in_file_at, Ended, EndFault};
 
 use crate::parts::read_parts;
 use crate::record::{Lap, RoundRecord};
-use banks::{BankTable, StoredTable, read_table};
+use banks::{BankTable, read_front};
 use frames::{FileFault, Unread};
 use readers::PanelledReader;
 use rig::{Unfit, check_list};
-
-// The lines behind those of a table that was read, a head line and a line for each bank. `Unread` begins at the first line
-// of a file, so those lines are passed once more: it counts them, and the lines of the list are read as those of any file.
-fn behind_table<'a>(bytes: &'a [u8], stored: &StoredTable) -> Result<Unread<'a>, FileFault>
-    requires { TableRead bytes.now stored.now.table stored.now.dwells (drop stored.now.end bytes.now) }
-    ensures { MatchResult result (λ u. (u.rest.now ≡ drop stored.now.end bytes.now) × (u.line ≡ 2 + stored.now.table.count)) (λ e. ⊥) }
-{
-    let mut lines = Unread::of(bytes)?;
-    for _ in 0..1 + stored.table.count() {
-        lines.next_frame()?;
-    }
-    Ok(lines)
-}
 
 // The fault of a list that is refused, told at this line.
 fn unlawful_at(line: u32, unfit: Unfit) -> FileFault
@@ -66,8 +52,8 @@ pub fn read_round(bytes: &[u8], target: &mut RoundRecord) -> Result<(), FileFaul
     ensures regular { Decides (is_ok result) (SomeRegular bytes.now) }
     ensures only { MatchResult result (λ _. OnlyRound bytes.now target.new) (λ e. OnlyFault bytes.now (file_told e)) }
 {
-    let stored = read_table(bytes)?;
-    let mut lines = behind_table(bytes, &stored)?;
-    let list = read_parts(&mut lines, stored.table.count(), usize::from(stored.dwells))?;
-    finish(stored.table, list, &lines, target)
+    let front = read_front(bytes)?;
+    let mut lines = front.lines;
+    let list = read_parts(&mut lines, front.table.count(), usize::from(front.dwells))?;
+    finish(front.table, list, &lines, target)
 }

@@ -29,6 +29,8 @@ returns c =
     let e : c.loop-i.i ≡ c.args.head.banks = omega (arith, c.loop-i-test.false, c.loop-i.auto.i-end, length-take {A = Bank}, c.args.head.few) in
     let z : c.default-banks.result ≡ no_bank = search rules in
     let items = c.loop-i.bank-items in
-    let rest = c.loop-i.lines.rest.now in
-    subst (λ (b : Bank). BanksRead c.args.lines.now.rest.now (items ++ drop c.args.head.banks (replicate most_banks b)) c.args.head.banks rest) (sym z)
-    (banks_front c.args.lines.now.rest.now items c.args.head.banks rest l (subst (λ (n : ℕ). BanksRead c.args.lines.now.rest.now items n rest) e i.read))
+    let rest = c.loop-i.lines.rest.now in (
+      subst (λ (b : Bank). BanksRead c.args.lines.now.rest.now (items ++ drop c.args.head.banks (replicate most_banks b)) c.args.head.banks rest) (sym z)
+          (banks_front c.args.lines.now.rest.now items c.args.head.banks rest l (subst (λ (n : ℕ). BanksRead c.args.lines.now.rest.now items n rest) e i.read)),
+      omega (arith, i.line, e),
+    )

@@ -1,44 +1,13 @@
-use Rattle.std.proofs.Common.{◌≡◌, ℕ, List, ◌++◌, sym, ◌∙◌, subst, arith}
-use Rattle.std.proofs.lemmas.Result.{err_from_is_err_and}
-use Rattle.frames.specs.BadLines.{BadLine}
-use Rattle.frames.specs.Faults.{file_told}
-use Rattle.banks.specs.Stored.{head_line, head_column, HeadWithin, BanksRead, TableRead}
-use Rattle.banks.specs.Stored.TableFault.{in_head, in_bank}
-use Rattle.banks.proofs.TableLines.{rest_at, table_read, table_front}
+use Rattle.std.proofs.Common.{sym, subst, arith}
+use Rattle.banks.specs.Stored.{TableRead}
+use Rattle.banks.proofs.TableLines.{rest_at, table_front}
 use Rattle.banks.proofs.stored.read_table.Goals as goal
-
-pub returns-in_err-head : goal.returns-in_err-head
-returns-in_err-head c =
-    let p = err_from_is_err_and c.from_residual-in_err-head.result c.from_residual-in_err-head.ensures.1 in
-    let l = c.in_ok-lines.ensures in
-    let bad = subst (λ (xs : List ℕ). BadLine 17 head_column xs 1 (file_told c.in_err-head.field-0.0)) l.1 (subst (λ (n : ℕ). BadLine 17 head_column c.in_ok-lines.lines.rest.now n (file_told c.in_err-head.field-0.0)) l.2 c.in_err-head.ensures) in
-    rw (p.1, p.2) (in_head l.0 bad)
-
-pub returns-in_err-banks : goal.returns-in_err-banks
-returns-in_err-banks c =
-    let p = err_from_is_err_and c.from_residual-in_err-banks.result c.from_residual-in_err-banks.ensures.1 in
-    let l = c.in_ok-lines.ensures in
-    let h = c.in_ok-head.head in
-    let within : HeadWithin h.banks h.settle h.dwells = record { enough = h.enough; few = h.few; settles = h.settles; some_dwell = h.some_dwell; few_dwells = h.few_dwells } in
-    rw (p.1, p.2) (in_bank h.banks h.settle h.dwells _ l.0 within (sym l.1 ∙ c.in_ok-head.ensures.0) c.in_err-banks.ensures)
 
 pub returns : goal.returns
 returns c =
     let bytes = c.args.bytes.now in
-    let l = c.in_ok-lines.ensures in
-    let h = c.in_ok-head.head in
-    let o = c.of-table.ensures in
-    let t = c.of-table.result in
-    let n = sym o.count in
-    let rest = c.rest.result.now in
-    let last = sym c.rest.ensures in
-    let within : HeadWithin h.banks h.settle h.dwells = record { enough = h.enough; few = h.few; settles = h.settles; some_dwell = h.some_dwell; few_dwells = h.few_dwells } in
-    let text : TableRead bytes t h.dwells rest =
-    table_read bytes h.settle h.dwells c.read_head.new.lines.rest.now c.in_ok-banks.banks rest t l.0
-    (subst (λ (k : ℕ). HeadWithin k h.settle h.dwells) n within)
-    (subst (λ (k : ℕ). bytes ≡ head_line k h.settle h.dwells ++ c.read_head.new.lines.rest.now) n (sym l.1 ∙ c.in_ok-head.ensures.0))
-    (subst (λ (k : ℕ). BanksRead c.read_head.new.lines.rest.now c.in_ok-banks.banks k rest) n (subst (BanksRead c.read_head.new.lines.rest.now c.in_ok-banks.banks h.banks) last c.in_ok-banks.ensures))
-    o.settle
-    o.banks in
-    let f = table_front bytes t h.dwells rest text in
-    (omega arith, subst (TableRead bytes t h.dwells) (sym (rest_at bytes f.0 rest f.1)) text)
+    let p = c.in_ok-front.front in
+    let rest = p.lines.rest.now in
+    let text = c.in_ok-front.ensures.0 in
+    let f = table_front bytes p.table p.dwells rest text in
+    rw c.rest.ensures (omega arith, subst (TableRead bytes p.table p.dwells) (sym (rest_at bytes f.0 rest f.1)) text)

@@ -32,26 +32,26 @@ only_round bytes t xs r s h = record {
 only_fault : (bytes : List ℕ) (r : Refusal) → FirstFault bytes r → OnlyFault bytes r
 only_fault bytes r f s g = one_first_fault bytes s r g f
 
-pub returns-in_err-stored : goal.returns-in_err-stored
-returns-in_err-stored c =
+pub returns-in_err-front : goal.returns-in_err-front
+returns-in_err-front c =
     let p = err_from_is_err_and c.from_residual.result c.from_residual.ensures.1 in
-    let fault = in_table c.in_err-stored.ensures in
+    let fault = in_table c.in_err-front.ensures in
     let no = refuted c.args.bytes.now _ fault in
     rw (p.1, p.2) (record { reply = (fault, refl); exact = no; regular = decides_regular c.args.bytes.now false no; only = only_fault c.args.bytes.now _ fault })
 
 pub returns-in_err-list : goal.returns-in_err-list
 returns-in_err-list c =
     let p = err_from_is_err_and c.from_residual-in_err-list.result c.from_residual-in_err-list.ensures.1 in
-    let fault = list_fault c.args.bytes.now _ _ _ c.in_ok-stored.ensures.1 _ c.in_ok-lines.ensures.0 _ _ c.count.ensures c.from.ensures _ c.in_err-list.ensures in
+    let fault = list_fault c.args.bytes.now _ _ _ c.in_ok-front.ensures.0 _ _ c.count.ensures c.from.ensures _ c.in_err-list.ensures in
     let no = refuted c.args.bytes.now _ fault in
     rw (p.1, p.2) (record { reply = (fault, refl); exact = no; regular = decides_regular c.args.bytes.now false no; only = only_fault c.args.bytes.now _ fault })
 
 pub returns : goal.returns
 returns c =
     let bytes = c.args.bytes.now in
-    let t = c.in_ok-stored.stored.table in
+    let t = c.in_ok-front.front.table in
     let list = c.in_ok-list.ensures in
-    let lines = lines_read bytes _ _ _ c.in_ok-stored.ensures.1 _ c.in_ok-lines.ensures.0 _ _ (list.0 ∙ c.from.ensures) list.1.text in
+    let lines = lines_read bytes _ _ _ c.in_ok-front.ensures.0 _ _ (list.0 ∙ c.from.ensures) list.1.text in
     let exact : Decides (is_ok c.finish.result) (SomeStored bytes) = decided bytes c.finish.result (MatchResult-weaker c.finish.result c.finish.ensures
     (λ x h. record { table = t; list = _; stored = stored_whole bytes t _ _ lines h.0 })
     (λ e h. at_end t _ _ lines h.0)) in
