@@ -12,10 +12,7 @@ use crate::listed::{Listed, Listing, put_all, write};
 use crate::short::TooShort;
 use banks::{Bank, BankTable};
 use frames::Kind;
-use rounds::RoundRecord;
-
-// The most dwells of one line.
-const PART_SIZE: usize = 16;
+use rounds::{PART_SIZE, RoundRecord, parts_of};
 
 // The bytes of a head line, of a bank's line, of a part's line without its banks, and of each of these.
 const HEAD_LENGTH: usize = 13;
@@ -131,8 +128,7 @@ impl Listing for StoredRound<'_> {
     fn needed(&self) -> usize {
         let banks = self.table.count() as usize;
         let dwells = self.list.len();
-        let parts = dwells.div_ceil(PART_SIZE);
-        HEAD_LENGTH + BANK_LENGTH * banks + PART_LENGTH * parts + DWELL_LENGTH * dwells
+        HEAD_LENGTH + BANK_LENGTH * banks + PART_LENGTH * parts_of(dwells) + DWELL_LENGTH * dwells
     }
 }
 

@@ -162,10 +162,5 @@ fn panel_covers(fresh: Option<u8>, stale: Option<u8>) -> bool
 fn settling_before(table: &BankTable, last: Option<u8>, j: u8) -> u16
     ensures { result ≡ settling table.now last j }
 {
-    let panel = table.at(j as usize).panel;
-    if last.is_none_or(|p| p == panel) {
-        0
-    } else {
-        table.settle()
-    }
+    last.map_or(0, |p| table.settling(p, j))
 }
