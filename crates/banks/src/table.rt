@@ -24,7 +24,8 @@ pub struct Bank {
     pub gap: u16,
 }
 
-// Places without a bank hold zeros.
+// Places without a bank hold zeros. The array stands beside the number of banks, since a table is copied, and a list of a fixed room
+// is not.
 #[derive(Clone, Copy)]
 pub struct BankTable {
     count: u8,

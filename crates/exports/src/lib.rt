@@ -1,4 +1,5 @@
-// Calls for programs in other languages: a file is handed over as bytes, and the number of its refusal comes back, 0 where it is read.
+// Calls for programs in other languages: a file is handed over as bytes, and the number of its refusal comes back, 0 where it is read:
+// those languages have no `Option`.
 #![tactic(auto)]
 
 ghost use Rattle.std.specs.Prelude.{◌≡◌, MatchResult};

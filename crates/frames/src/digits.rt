@@ -9,7 +9,7 @@ use refusals::{Refusal, RefusalNumber};
 // The most digits that a field has.
 pub const MOST_DIGITS: usize = 8;
 
-// What `digit_value` gives for a byte that is no digit.
+// What `digit_value` gives for a byte that is no digit: a number, since the table of all bytes is a rule; `digit` has an `Option`.
 pub const NO_DIGIT: u8 = 16;
 
 // What each byte stands for.
@@ -100,7 +100,7 @@ pub fn read_number(digits: &[u8]) -> Option<u32>
     Some(n)
 }
 
-// The number that at most 8 digits write; 0 for anything else.
+// The number that at most 8 digits write; 0 for anything else, as its callers are promised. `read_number` tells the two apart.
 pub fn number(digits: &[u8]) -> u32
     ensures read { length digits.now ≤ 8 → AllDigits digits.now → Writes digits.now result }
     ensures refused { (length digits.now ≤ 8 → AllDigits digits.now → ⊥) → result ≡ 0 }

@@ -19,7 +19,7 @@ pub struct Field {
     pub high: u32,
 }
 
-// The number in a field of at most 8 digits; 0 where there is no such field.
+// The number in a field of at most 8 digits; 0 where there is no such field, as its callers are promised.
 pub fn number_at(digits: &[u8], place: usize, width: usize) -> u32
     ensures read { width ≤ 8 → place + width ≤ length digits.now → AllDigits (take width (drop place digits.now)) → result ≡ field place width digits.now }
     ensures refused { (width ≤ 8 → place + width ≤ length digits.now → AllDigits (take width (drop place digits.now)) → ⊥) → result ≡ 0 }
@@ -31,7 +31,7 @@ pub fn number_at(digits: &[u8], place: usize, width: usize) -> u32
 }
 
 impl Field {
-    // The number in the field, 0 where the digits have no such field.
+    // The number in the field, 0 where the digits have no such field: the fields of a frame are all there.
     fn number_in(&self, digits: &[u8]) -> u32
         ensures { result ≡ number_in self.now.place self.now.width digits.now }
     {

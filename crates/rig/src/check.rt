@@ -76,6 +76,7 @@ pub fn check_list<R: Rig>(rig: &R, list: &[u8]) -> Result<u32, Unfit>
         return Err(Unfit::NoMove { position });
     }
     let mut first = rig.rest();
+    // No range of laps: how many there are is known only at the end.
     let mut lap = 1u32;
     loop {
         let last = run_lap(rig, first, list).map_err(|position| Unfit::Unlawful { lap, position })?;

@@ -112,6 +112,7 @@ impl<'a, S: Copy + Drop> Book<'a, S> {
         let Standing::Open = self.standing else {
             return (Verdict::from(self.standing), 0);
         };
+        // No range of turns: `made` counts only those that take a row.
         let mut made = 0;
         loop {
             match self.next(rig, visits - made) {
