@@ -88,7 +88,7 @@ impl<'a> TableLap<'a> {
     {
         let mut since = 0u32;
         let mut longest = 0u32;
-        // n is the number of a dwell over all laps, and no index.
+        // By the numbers of dwells over all laps: the list is gone round from the first dwell on the bank.
         for n in first + 1..first + self.list.len() + 1 {
             let wait = since + self.settling_before(n) as u32;
             if self.on(n) == bank {

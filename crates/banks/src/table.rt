@@ -41,7 +41,8 @@ pub struct BankTable {
     ghost unused: { (i : ℕ) → count ≤ i → ((bank_at banks i).panel ≡ 0) × ((bank_at banks i).dwell ≡ 0) × ((bank_at banks i).gap ≡ 0) },
 }
 
-// Tables are equal exactly when they are identical. It is written by hand, since its clause promises that, and a derive's does not.
+// Tables are equal exactly when they are identical. It is written by hand, since the check does not find that
+// of a derived equality of arrays.
 impl PartialEq for BankTable {
     ghost eq = { eq_of_both (eq_of_both (on (λ t. t.count) nat_eq) (on (λ t. t.settle) nat_eq)) (on (λ t. t.banks) (pointwise bank_eq)) };
 

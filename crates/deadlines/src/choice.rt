@@ -22,7 +22,7 @@ fn due_first(count: u8, deadlines: [u32; MOST_BANKS], untried: &Moves) -> Option
         .map(|(i, _)| i)
 }
 
-// The untried bank with the least deadline, the lowest number among equals; 0 where no bank is untried, by the rule of a choice.
+// The untried bank with the least deadline, the lowest number among equals; 0 where no bank is untried (docs/RULES.md).
 // Untried moves that are no banks of the table do not count.
 pub fn choose(table: &BankTable, ages: &[u16; MOST_BANKS], untried: &Moves) -> u8
     ensures value { result ≡ earliest_due table.now.count (deadline table.now (age_at ages.now)) (in_set untried.now.held) }

@@ -9,7 +9,8 @@ use refusals::{Refusal, RefusalNumber};
 // The most digits that a field has.
 pub const MOST_DIGITS: usize = 8;
 
-// What `digit_value` gives for a byte that is no digit: a number, since the table of all bytes is a rule; `digit` has an `Option`.
+// What `digit_value` gives for a byte that is no digit: a number, since docs/FORMATS.md gives the values
+// of all 256 bytes as a table; `digit` has an `Option`.
 pub const NO_DIGIT: u8 = 16;
 
 // What each byte stands for.

@@ -54,6 +54,7 @@ pub fn read_fields<const N: usize>(
 ) -> Result<[u32; N], FileFault>
     ensures { MatchResult result (λ ns. (ns ≡ numbers_in fields.now digits.now) × (bad_column fields.now digits.now ≡ 0)) (λ e. ToldColumn (bad_column fields.now digits.now) line e) }
 {
+    // Numbers are written by their index: of what a zip over `iter_mut` has written, a proof knows nothing.
     let mut numbers = [0; N];
     for (k, field) in fields.iter().enumerate() {
         let number = field.number_in(digits);

@@ -115,7 +115,7 @@ impl GuidedRig for PlainReader {
         is_hopeless(&self.table, &s.ages)
     }
 
-    // The untried bank with the least deadline, the lowest number among equals; 0 where no bank is untried, by the rule of a choice.
+    // The untried bank with the least deadline, the lowest number among equals; 0 where no bank is untried (docs/RULES.md).
     fn choose(&self, s: &PlainState, untried: &Moves) -> u8
         ensures value { result ≡ choice (guided_plain self.now.table) s.now (in_set untried.now.held) }
         ensures some { (i : ℕ) → i < self.now.table.count → in_set untried.now.held i ≡ true → DueFirst self.now.table.count (deadline self.now.table (plain_age s.now)) (in_set untried.now.held) result }

@@ -42,7 +42,7 @@ impl From<Unfit> for Refusal {
     }
 }
 
-// The position of the first number of the list that is not below `moves`; 0 where the list is empty.
+// The position of the first number of the list that is not below `moves`; 0 where the list is empty (docs/REFUSALS.md).
 fn first_no_move(moves: u8, list: &[u8]) -> Option<usize>
     ensures { MatchOption result (OnlyMoves moves list.now) (λ p. FirstNoMove moves list.now p) }
 {
@@ -76,7 +76,7 @@ pub fn check_list<R: Rig>(rig: &R, list: &[u8]) -> Result<u32, Unfit>
         return Err(Unfit::NoMove { position });
     }
     let mut first = rig.rest();
-    // No range of laps: how many there are is known only at the end.
+    // A loop with a count: a `for` over laps without an end is not proved to end.
     let mut lap = 1u32;
     loop {
         let last = run_lap(rig, first, list).map_err(|position| Unfit::Unlawful { lap, position })?;

@@ -13,7 +13,7 @@ pub trait GuidedRig: Rig {
     fn hopeless(&self, s: &Self::State) -> bool
         ensures { (Self.means self.now).proper s.now ≡ true → result ≡ (guide self.now).hopeless s.now };
 
-    // The move to try next of those untried, 0 where none is, which is the rule of a choice: told of proper states.
+    // The move to try next of those untried, 0 where none is (docs/RULES.md): told of proper states.
     fn choose(&self, s: &Self::State, untried: &Moves) -> u8
         ensures { (Self.means self.now).proper s.now ≡ true → result ≡ choice (guided (Self.means self.now) (guide self.now)) s.now (in_set untried.now.held) };
 

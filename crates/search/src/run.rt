@@ -107,7 +107,7 @@ pub fn run_calls<R: GuidedRig>(
     check_room(rows.len(), calls, replies.len(), room.len())?;
     let mut book = Book::new(rows);
     let mut at = 0;
-    // Replies are written by their index: of what a zip over `iter_mut` has written, no proof can say anything.
+    // Replies are written by their index: of what a zip over `iter_mut` has written, a proof knows nothing.
     for (k, call) in calls.iter().enumerate() {
         let end = at + buffer(call);
         replies[k] = make_call(&mut book, call, &mut room[at..end]);
