@@ -41,6 +41,15 @@ pub struct BankTable {
     ghost unused: { (i : ℕ) → count ≤ i → ((bank_at banks i).panel ≡ 0) × ((bank_at banks i).dwell ≡ 0) × ((bank_at banks i).gap ≡ 0) },
 }
 
+impl Bank {
+    // Whether two banks are identical, which is what `==` tells.
+    pub fn is_identical(&self, other: &Bank) -> bool
+        ensures { Decides result (self.now ≡ other.now) }
+    {
+        self == other
+    }
+}
+
 // Tables are equal exactly when they are identical. It is written by hand, since the check does not find that
 // of a derived equality of arrays.
 impl PartialEq for BankTable {
