@@ -17,7 +17,7 @@ pub const MOST_DWELL: u16 = 1000;
 pub const MOST_GAP: u16 = 65533;
 
 // One feeder bank: the panel of its aerial, the ticks of one dwell on it, and the longest wait that it bears.
-#[derive(Clone, Copy, PartialEq, Eq, Default, Debug)]
+#[derive(Clone, Copy, Eq, Default, Debug)]
 pub struct Bank {
     pub panel: u8,
     pub dwell: u16,
@@ -47,6 +47,20 @@ impl Bank {
         ensures { Decides result (self.now ≡ other.now) }
     {
         self == other
+    }
+}
+
+// Banks are equal exactly when they are identical. It is written by hand, since a derived equality has no clause that says so.
+impl PartialEq for Bank {
+    ghost eq = { bank_eq };
+
+    ghost laws = { Keys.partial_equiv_from_equiv (Prim.search (comparing, rules)) };
+
+    fn eq(&self, other: &Bank) -> bool
+        ensures value { result ≡ bank_eq self.now other.now }
+        ensures identical { Decides result (self.now ≡ other.now) }
+    {
+        self.panel == other.panel && self.dwell == other.dwell && self.gap == other.gap
     }
 }
 

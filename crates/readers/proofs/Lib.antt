@@ -1,3 +1,4 @@
+pub mod Identical
 pub mod Served
 pub mod Unsettled
 pub mod Computed

@@ -1,5 +1,5 @@
 // The panelled reader: one reader behind an aerial switch that settles when the panel changes.
-ghost use Rattle.std.specs.Prelude.{◌≡◌, ℕ, ◌<◌, true, Decides};
+ghost use Rattle.std.specs.Prelude.{◌≡◌, ℕ, ◌<◌, true, Decides, nat_eq};
 ghost use Rattle.rig.specs.Meaning.{after, lawful};
 ghost use Rattle.rig.specs.Guides.{choice};
 ghost use Rattle.rig.specs.Orders.{Endless, Order};
@@ -8,6 +8,12 @@ ghost use Rattle.deadlines.specs.Deadlines.{DueFirst, NoneMeets, NoneUntried, de
 ghost use Rattle.readers.specs.Panelled.{age, guided_panelled, panel_covers, panel_proper, panelled, panelled_guide, proper_state, settling, state_covers};
 ghost use Rattle.readers.specs.Rules.{Covers, Proper, TellsAfter, TellsLawful};
 ghost use Rattle.readers.specs.RigLaws.{guide_laws, laws};
+ghost use lib.Pointwise.{pointwise};
+ghost use Rattle.std.specs.Option.{option_eq};
+ghost use Rattle.std.specs.Ordering.{on, eq_of_both};
+ghost use Rattle.std.specs.Cmp.Rules.{comparing};
+ghost use Rattle.std.proofs.Common.{rules};
+ghost use Rattle.std.specs.Cmp as Keys;
 
 use crate::ages::{Ages, age_sum, ages_after, ages_cover, ages_proper, in_time};
 use banks::{BankTable, MOST_GAP};
@@ -18,11 +24,25 @@ use sheets::{MOST_BANKS, MOST_PANEL};
 // The greatest sum of ages of a proper state, and one more for its last panel.
 pub(crate) const MOST_STALENESS: u32 = MOST_BANKS as u32 * MOST_GAP as u32 + 1;
 
-// The age of every bank, and the panel of the last dwell, if there was one. States are equal exactly when they are identical.
-#[derive(Clone, Copy, PartialEq, Eq, Debug)]
+// The age of every bank, and the panel of the last dwell, if there was one.
+#[derive(Clone, Copy, Eq, Debug)]
 pub struct ReaderState {
     ages: Ages,
     last: Option<u8>,
+}
+
+// States are equal exactly when they are identical. It is written by hand, since a derived equality has no clause that says so.
+impl PartialEq for ReaderState {
+    ghost eq = { eq_of_both (on (λ s. s.last) (option_eq nat_eq)) (on (λ s. s.ages) (pointwise nat_eq)) };
+
+    ghost laws = { Keys.partial_equiv_from_equiv (Prim.search (comparing, rules)) };
+
+    fn eq(&self, other: &ReaderState) -> bool
+        ensures value { result ≡ eq_of_both (on (λ s. s.last) (option_eq nat_eq)) (on (λ s. s.ages) (pointwise nat_eq)) self.now other.now }
+        ensures identical { Decides result (self.now ≡ other.now) }
+    {
+        self.last == other.last && self.ages == other.ages
+    }
 }
 
 // The panelled reader of a bank table.

@@ -1,5 +1,5 @@
 // The plain reader: one reader whose aerial needs no settling.
-ghost use Rattle.std.specs.Prelude.{◌≡◌, ℕ, ◌<◌, true, Decides};
+ghost use Rattle.std.specs.Prelude.{◌≡◌, ℕ, ◌<◌, true, Decides, nat_eq};
 ghost use Rattle.rig.specs.Meaning.{after, lawful};
 ghost use Rattle.rig.specs.Guides.{choice};
 ghost use Rattle.rig.specs.Orders.{Endless, Order};
@@ -8,6 +8,11 @@ ghost use Rattle.deadlines.specs.Deadlines.{DueFirst, NoneMeets, NoneUntried, de
 ghost use Rattle.readers.specs.Ages.{AgesCover, AgesProper, ages_cover, ages_proper};
 ghost use Rattle.readers.specs.Plain.{PlainAfter, PlainLawful, guided_plain, plain, plain_age, plain_guide};
 ghost use Rattle.readers.specs.PlainLaws.{plain_guide_laws, plain_laws};
+ghost use lib.Pointwise.{pointwise};
+ghost use Rattle.std.specs.Ordering.{on};
+ghost use Rattle.std.specs.Cmp.Rules.{comparing};
+ghost use Rattle.std.proofs.Common.{rules};
+ghost use Rattle.std.specs.Cmp as Keys;
 
 use crate::ages::{Ages, age_sum, ages_after, ages_cover, ages_proper, in_time};
 use crate::panelled::MOST_STALENESS;
@@ -16,10 +21,24 @@ use deadlines::{choose, is_hopeless};
 use rig::{GuidedRig, Moves, Rig};
 use sheets::MOST_BANKS;
 
-// The age of every bank. States are equal exactly when they are identical.
-#[derive(Clone, Copy, PartialEq, Eq, Debug)]
+// The age of every bank.
+#[derive(Clone, Copy, Eq, Debug)]
 pub struct PlainState {
     ages: Ages,
+}
+
+// States are equal exactly when they are identical. It is written by hand, since a derived equality has no clause that says so.
+impl PartialEq for PlainState {
+    ghost eq = { on (λ s. s.ages) (pointwise nat_eq) };
+
+    ghost laws = { Keys.partial_equiv_from_equiv (Prim.search (comparing, rules)) };
+
+    fn eq(&self, other: &PlainState) -> bool
+        ensures value { result ≡ on (λ s. s.ages) (pointwise nat_eq) self.now other.now }
+        ensures identical { Decides result (self.now ≡ other.now) }
+    {
+        self.ages == other.ages
+    }
 }
 
 // The plain reader of a bank table.
