@@ -2,10 +2,11 @@
 use Rattle.std.proofs.Common.{◌≡◌, ℕ, zero, suc, ◌+◌, ◌*◌, ◌^◌, ◌<◌, ◌≤◌, Bool, ◌&&◌, List, get_or, length, take, sum_by, refl, ap, sym, ◌∙◌, arith, add-one, zero-add}
 use Rattle.std.proofs.Math.Bool.{and_comm}
 use Rattle.std.proofs.Math.Path.{ap₂}
-use Rattle.std.specs.List.{enumerate_from, list_all, zip}
+use Rattle.std.specs.List.{enumerate_from, list_all, range_with_len, zip}
+use Rattle.std.proofs.lemmas.List.{take_all}
 use Rattle.std.proofs.lemmas.List.Folds.{list_all_more}
 use Rattle.std.proofs.lemmas.List.Sums.{sum_by_more}
-use Rattle.std.proofs.lemmas.List.FromFn.{get_or-enumerate_from, length-enumerate_from}
+use Rattle.std.proofs.lemmas.List.FromFn.{get_or-enumerate_from, get_or-range_with_len, length-enumerate_from, length-range_with_len}
 use Rattle.std.proofs.lemmas.Slice.Zip.{get_or-zip, length-zip}
 use Rattle.banks.proofs.Below.{sum_capped}
 use Rattle.banks.specs.Places.{age_at, every_below, sum_below}
@@ -36,6 +37,13 @@ pub list_all_enumerated : (test : ℕ × ℕ → Bool) (xs : List ℕ) (n : ℕ)
 list_all_enumerated test xs n long =
     list_all_below (enumerate_from 0 xs) (0, 0) test (λ i. test (i, age_at xs i)) n (omega (arith, long, length-enumerate_from 0 xs))
     (λ i h. ap test (enumerated_at xs i (omega arith)))
+
+-- the numbers below n
+pub list_all_ranged : (test : ℕ → Bool) (n : ℕ) → list_all test (range_with_len 0 n) ≡ every_below n test
+list_all_ranged test n =
+    ap (list_all test) (sym (take_all n (range_with_len 0 n) (omega (arith, length-range_with_len 0 n))))
+    ∙ list_all_below (range_with_len 0 n) 0 test test n (omega (arith, length-range_with_len 0 n))
+    (λ i h. ap test (get_or-range_with_len 0 n i 0 h ∙ zero-add i))
 
 -- the first n of two lists side by side
 pub list_all_zipped : (test : ℕ × ℕ → Bool) (xs ys : List ℕ) (n : ℕ) → n ≤ length xs → n ≤ length ys → list_all test (take n (zip xs ys)) ≡ every_below n (λ i. test (age_at xs i, age_at ys i))

@@ -3,3 +3,4 @@ pub mod Served
 pub mod Unsettled
 pub mod Computed
 pub mod Chains
+pub mod Grown

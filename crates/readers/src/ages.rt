@@ -5,7 +5,6 @@ ghost use Rattle.readers.specs.Ages.{age_sum, aged, ages_cover, ages_proper, in_
 
 use banks::BankTable;
 use sheets::MOST_BANKS;
-use std::array;
 
 // The functions below take a table and ages, each by its own reference: a reader holds the one and its state the other.
 // A struct of the two would be made anew for each call, and every clause would speak of the two through it.
@@ -38,10 +37,9 @@ pub(crate) fn in_time(table: &BankTable, ages: &Ages, j: u8, settling: u16) -> b
     ensures { result ≡ in_time table.now (age_at ages.now) j settling }
 {
     let own = j as usize;
-    let banks = table.count() as usize;
     let dwell = table.at(own).dwell as u32;
-    ages.iter().enumerate().take(banks).all(|(i, age)| {
-        let begins = *age as u32 + settling as u32;
+    (0..table.count() as usize).all(|i| {
+        let begins = ages[i] as u32 + settling as u32;
         let wait = if i == own { begins } else { begins + dwell };
         wait <= table.at(i).gap as u32
     })
@@ -56,11 +54,13 @@ pub(crate) fn ages_after(table: &BankTable, ages: &Ages, j: u8, settling: u16) -
     let own = j as usize;
     let banks = table.count() as usize;
     let dwell = table.at(own).dwell;
-    array::from_fn(|i| if i >= banks || i == own {
-        0
-    } else {
-        ages[i] + settling + dwell
-    })
+    let mut after = [0; MOST_BANKS];
+    // Every bank's age grows, that of bank j too, so that no turn has a choice to make.
+    for (i, age) in after[..banks].iter_mut().enumerate() {
+        *age = ages[i].saturating_add(settling).saturating_add(dwell);
+    }
+    after[own] = 0;
+    after
 }
 
 // The sum of the banks' ages.
