@@ -1,6 +1,6 @@
 // A set of moves.
 ghost use Rattle.std.specs.Prelude.{◌≡◌, ℕ, false, not, ◌&&◌, ◌||◌, length, if◌then◌else◌, ◌==◌, nat_eq, nat_lt};
-ghost use Rattle.rig.specs.Sets.{in_set, most_moves};
+ghost use Rattle.rig.specs.Sets.{in_set, most_moves, some_below};
 
 // Moves are numbered from 0, below this.
 pub const MOST_MOVES: usize = crate::MOST_MOVES as usize;
@@ -26,6 +26,13 @@ impl Moves {
         ensures { result ≡ in_set self.now.held j }
     {
         self.held.get(j as usize).copied().unwrap_or(false)
+    }
+
+    // Whether no move is in the set.
+    pub fn is_empty(&self) -> bool
+        ensures { result ≡ not (some_below most_moves (in_set self.now.held)) }
+    {
+        self.held == Moves::none().held
     }
 
     // The set with this move besides; a number that is no move adds nothing.

@@ -38,6 +38,6 @@ impl<S: Copy + Drop> Row<S> {
     pub(crate) fn is_open(&self) -> bool
         ensures { result ≡ on_path self.now }
     {
-        lowest(&self.untried).is_some()
+        !self.untried.is_empty()
     }
 }
