@@ -45,6 +45,10 @@ longest_in_time t o b w x y =
     let n = y.next x.from x.next.from in
     omega (arith, x.waits, n.2, ap (begins t o) (next_one o b x.from n.0 x.to n.1 x.next))
 
+-- slack needs a wait
+pub slack_occurs : (t : BankTable) (xs : List ℕ) (b s : ℕ) → Slack t xs b s → Occurs xs b
+slack_occurs t xs b s x = occurs xs b x.waits.from x.lap.only.some_move x.waits.next.from
+
 -- of a lap, what is told of its waits is told of it as a list
 pub lap_waits : (t : BankTable) (xs : List ℕ) (b : ℕ) (r : Option ℕ) → Lap t xs → MatchOption r (Occurs xs b → ⊥) (λ w. LongestWait t (again xs) b w)
     → MatchOption r (Lap t xs → Occurs xs b → ⊥) (λ w. Lap t xs × LongestWait t (again xs) b w)

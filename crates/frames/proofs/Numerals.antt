@@ -54,6 +54,9 @@ pub numeral_digits : (w n : ℕ) → AllDigits (numeral w n)
 numeral_digits zero n = all_none
 numeral_digits (suc w) n = all_cons (digit (n / 16 ^ w % 16)) (numeral w n) (digit_is (n / 16 ^ w % 16) (mod-lt (n / 16 ^ w) (zero-lt-suc 15))) (numeral_digits w n)
 
+pub numeral_none_closes : (w n : ℕ) → NoneCloses (numeral w n)
+numeral_none_closes w n = digits_none_close (numeral w n) (numeral_digits w n)
+
 -- What a numeral writes.
 pub value_numeral : (w n : ℕ) → value (numeral w n) ≡ n % 16 ^ w
 value_numeral zero n = sym (mod-one n)

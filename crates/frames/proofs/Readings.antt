@@ -9,7 +9,7 @@ use Rattle.frames.specs.declared.faults.FileFault.{FileFault}
 use Rattle.frames.specs.declared.faults.FileFault.TheVariants.{Frame as InFrame, TooLong, Unclosed, AfterEnd, Misplaced, Field, Unlawful}
 use Rattle.frames.specs.Digits.{AllDigits, FirstNoDigit, numeral, column_of}
 use Rattle.frames.specs.Lines.{ClosedLine}
-use Rattle.frames.specs.Frames.{kind_of, body_of, Shaped, NoDigitIn, FrameFails, FrameRead, LineFails, NextFails}
+use Rattle.frames.specs.Frames.{kind_of, body_of, Shaped, IsFrame, NoDigitIn, FrameFails, FrameRead, LineFails, NextFails}
 use Rattle.frames.proofs.Splits.{one_line, closed_closes}
 use Rattle.frames.proofs.Shapes.{good_line_cut}
 
@@ -37,6 +37,10 @@ one_frame_fault bytes line (Digit d) (Digit e) h i = ap Digit (one_digit_fault b
 one_frame_fault bytes line (Digit d) (Shape m) h i = absurd (digits_no_fault bytes h.place i.1.digits h.first)
 one_frame_fault bytes line (Shape l) (Digit e) h i = absurd (digits_no_fault bytes i.place h.1.digits i.first)
 one_frame_fault bytes line (Shape l) (Shape m) h i = ap Shape (h.0 ∙ sym i.0)
+
+-- A frame has no fault.
+pub frame_no_fault : (bytes : List ℕ) (f : Frame) (line : ℕ) (e : FrameFault) → IsFrame bytes f → FrameFails bytes line e → ⊥
+frame_no_fault bytes f line e h i = good_line_cut bytes (kind_of f) (body_of f) h.digits h.shaped h.text line e i
 
 -- What fails at a closed line is that line.
 pub fails_line : (bytes line after : List ℕ) (n : ℕ) (e : FrameFault) → ClosedLine bytes line after → LineFails bytes n e → FrameFails line n e

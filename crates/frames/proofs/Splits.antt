@@ -32,6 +32,10 @@ closed_closes bytes line after h none =
     let l = ap length h.text ∙ length-append line (10 ∷ after) in
     none (length line) (omega (arith, l)) (closing bytes line after h)
 
+-- A line of bytes that close nothing, closed.
+pub closed_line : (line after : List ℕ) → NoneCloses line → ClosedLine (line ++ (10 ∷ after)) line after
+closed_line line after h = record { text = refl; inside = h }
+
 -- What is left is no longer than the whole.
 pub rest_short : (bytes front rest : List ℕ) → bytes ≡ front ++ rest → length rest ≤ length bytes
 rest_short bytes front rest e = let l = ap length e ∙ length-append front rest in omega (arith, l)

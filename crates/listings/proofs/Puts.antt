@@ -51,6 +51,10 @@ module _ (width n : ℕ) (before : List ℕ) (room : width ≤ length before) wh
     bytes = h.bytes ∙ ap (λ (w : ℕ). numeral w n ++ drop width before) (sub-zero width);
   }
 
+-- Nothing is put yet.
+pub put_none : (before : List ℕ) → Put [] before before 0
+put_none before = record { told = refl; room = omega arith; bytes = refl }
+
 -- One text more, put into the rest of the buffer from where the last one ended.
 pub put_more : (a b before out piece : List ℕ) (at n : ℕ) → Put a before out at → Put b (take (length out - at) (drop at out)) piece n → Put (a ++ b) before (put_mid at (length out - at) out piece) (at + n)
 put_more a b before out piece at n f g =

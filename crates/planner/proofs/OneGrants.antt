@@ -1,5 +1,5 @@
 -- One grant over the planner's rows.
-use Rattle.std.proofs.Common.{◌≡◌, ℕ, List, [], length, take, drop, Some, Ok, Result, sym, refl, ap, ◌∙◌, subst, arith}
+use Rattle.std.proofs.Common.{◌≡◌, ℕ, List, [], length, take, drop, Some, None, Ok, Option, Result, sym, refl, ap, ◌∙◌, subst, arith}
 use Rattle.std.proofs.lemmas.List.{length-drop, length-take}
 use Rattle.std.proofs.lemmas.List.Elements.{All-cons, All-nil}
 use Rattle.rig.specs.Guides.{Guided}
@@ -19,7 +19,10 @@ use Rattle.search.specs.declared.calls.Outcome.{Outcome}
 use Rattle.search.specs.declared.calls.Reply.{Reply}
 use Rattle.search.specs.declared.calls.Short.{Short}
 use Rattle.search.specs.declared.row.Row.{Row}
-use Rattle.search.specs.Calls.{Brings}
+use Rattle.search.specs.declared.step.Standing.{Standing}
+use Rattle.search.specs.declared.step.Standing.TheVariants as standings
+use Rattle.search.specs.Calls.{Brings, LastCopied, book_state}
+use Rattle.search.specs.Grants.{verdict_of as standing_verdict}
 use Rattle.search.specs.Promised.{Completed, Promised, Searched}
 use Rattle.planner.specs.Plans.{RunsOn, round_in}
 use Rattle.planner.specs.Plans.RunsOn.{found, unfit, no_round, not_run}
@@ -43,6 +46,15 @@ unfolding round_or
 found_with v r q is =
     let e : v ≡ verdict.Round = sym (verdict_kept v r) ∙ ap verdict_of is in
     (e, sym (ap (round_or r) (subst (λ u. finding_of u r ≡ Round q) e is)))
+
+-- a round is copied only with verdict round
+module _ {S : Type 0} (rows : List (Row S)) (taken : ℕ) (out out' : List ℕ) where
+  copied_round : (standing : Standing) (o : Option ℕ) → LastCopied (book_state rows taken standing) out o out' → (n : ℕ) → o ≡ Some n → standing_verdict standing ≡ verdict.Round
+  copied_round standing None h n is = let z : ◌≡◌ {A = ℕ} 0 1 = cc in absurd (omega arith)
+  copied_round (standings.Round p last) (Some k) h n is = refl
+  copied_round standings.Open (Some k) h n is = let z : ◌≡◌ {A = ℕ} 0 1 = cc h.0 in absurd (omega arith)
+  copied_round standings.NoRound (Some k) h n is = let z : ◌≡◌ {A = ℕ} 0 1 = cc h.0 in absurd (omega arith)
+  copied_round standings.Full (Some k) h n is = let z : ◌≡◌ {A = ℕ} 0 1 = cc h.0 in absurd (omega arith)
 
 module _ {R S : Type 0} (means : R → Guided S) (rig : R) (rows : List (Row S)) (replies : List Reply) (room : List ℕ) (rows' : List (Row S)) (replies' : List Reply) (room' : List ℕ) (many : length rows ≡ plan_rows) (room-is : length room ≡ plan_rows) where
   module _ (s : Sheet) (stock r : RoundRecord) (x : Outcome) (kept : length rows' ≡ length rows) (long : length room' ≡ length room) (serves : ServesSheet s (means rig).rig) (h : Completed means rows (one_grant_of rig) replies room rows' replies' room' x) where
@@ -70,6 +82,11 @@ module _ {R S : Type 0} (means : R → Guided S) (rig : R) (rows : List (Row S))
     grant_list (unfit t y n own done is bad same) v = let e : y ≡ x = cc in absurd (bad (subst (λ z. MakesRecord t (round_in room' z n)) (sym e) (makes t n own (sym (ap (λ z. z.round) e) ∙ is))))
     grant_list (no_round y done is same) v = let some = h.always.copied v in let e : y ≡ x = cc in let z : ◌≡◌ {A = ℕ} 0 1 = cc (some.1, ap (λ z. z.round) e) in absurd (omega arith)
     grant_list (not_run e done same) v = let z : ◌≡◌ {A = ℕ} 0 1 = cc in absurd (omega arith)
+
+    round_says : (n : ℕ) → x.round ≡ Some n → x.verdict ≡ verdict.Round
+    round_says n is =
+        let end = h.ran.end in
+        h.ran.verdict ∙ copied_round end.rows end.taken (drop 0 room) (drop 0 room') end.standing x.round h.ran.copied n is
 
     pub answers_on : RunsOn s room' (Ok x) stock r → AnswersOn s (means rig) (finding_of x.verdict r) x.taken
     answers_on runs = record {

@@ -1,7 +1,7 @@
 -- The lines of a list: the banks that the digits of a part tell, and the step from part to part.
 use Rattle.std.proofs.Common.{◌≡◌, ℕ, zero, suc, ◌+◌, ◌-◌, ◌*◌, ◌/◌, ◌%◌, ◌<◌, ◌≤◌, min, cond, eqb, ltb, List, [], ◌∷◌, ◌++◌, length, take, drop, sym, refl, ap, ◌∙◌, subst, ap₂, ⊎_elim, append_assoc, append-nil, not-suc-le-zero, add-one, arith, Bor}
 use Rattle.std.specs.List.{flat_map}
-use Rattle.std.proofs.lemmas.List.{nil_from_length, length-drop, length-append, get_or_append_left, get_or-append_right, take_all, take_at, take_rest, drop_at, take-append-le, drop-append-le, flat_map_more, length_push}
+use Rattle.std.proofs.lemmas.List.{nil_from_length, length-drop, length-append, get_or_append_left, get_or-append_right, take_all, take_at, take_rest, drop_at, take-take, drop-take, take-append-le, drop-append-le, flat_map_more, length_push}
 use Rattle.std.proofs.lemmas.Bool.{lt-ltb, le-ltb, cond-true, cond-false, cases_lt}
 use Rattle.std.proofs.lemmas.Bool.Decides.{nat_tests}
 use Rattle.frames.specs.declared.frame.Frame.{Frame}
@@ -28,6 +28,11 @@ length_pairs (x ∷ xs) = length-append (numeral 2 x) (flat_map (numeral 2) xs) 
 bad_bank_next : (banks n m c : ℕ) (ds : List ℕ) → m ≡ suc n → bad_bank banks m c ds ≡ cond (ltb (value (take 2 ds)) banks) (bad_bank banks n (c + 2) (drop 2 ds)) c
 unfolding bad_bank
 bad_bank_next banks n m c ds e = ap (λ k. bad_bank banks k c ds) e
+
+-- of no bank, no column is told
+pub bad_bank_none : (banks c : ℕ) (ds : List ℕ) → bad_bank banks 0 c ds ≡ 0
+unfolding bad_bank
+bad_bank_none banks c ds = refl
 
 -- one bank more, and a list more
 pub only_more : (banks : ℕ) (xs ys : List ℕ) → OnlyBanks banks xs → OnlyBanks banks ys → OnlyBanks banks (xs ++ ys)
@@ -197,6 +202,24 @@ part_lines_front xs ys (suc n) h =
 pub part_lines_more : (xs : List ℕ) (n : ℕ) → part_lines xs (n + 1) ≡ part_lines xs n ++ part_line (part xs n)
 unfolding part_lines
 part_lines_more xs n = ap (part_lines xs) (add-one n)
+
+-- A part is what its places of the list hold.
+part_place : (xs : List ℕ) (n k : ℕ) → k < n → part xs k ≡ part (take (part_size * n) xs) k
+part_place xs n k h =
+    let all : part_size * k + part_size ≤ part_size * n = omega arith in
+    sym (drop-take (part_size * k) part_size xs)
+    ∙ ap (drop (part_size * k)) (sym (take-take (part_size * k + part_size) (part_size * n) xs all))
+    ∙ drop-take (part_size * k) part_size (take (part_size * n) xs)
+
+-- The lines of the first parts depend on their places only.
+pub part_lines_of_front : (xs : List ℕ) (n k : ℕ) → k ≤ n → part_lines xs k ≡ part_lines (take (part_size * n) xs) k
+unfolding part_lines
+part_lines_of_front xs n zero h = refl
+part_lines_of_front xs n (suc k) h = ap₂ (λ (a b : List ℕ). a ++ part_line b) (part_lines_of_front xs n k (omega arith)) (part_place xs n k (omega arith))
+
+pub part_lines_same : (xs ys : List ℕ) (n : ℕ) → take (part_size * n) xs ≡ take (part_size * n) ys → part_lines xs n ≡ part_lines ys n
+part_lines_same xs ys n e =
+    part_lines_of_front xs n n (omega arith) ∙ ap (λ (zs : List ℕ). part_lines zs n) e ∙ sym (part_lines_of_front ys n n (omega arith))
 
 -- One line more, behind full parts.
 pub one_part_more : (xs put : List ℕ) (n : ℕ) → length xs ≡ part_size * n → length put ≤ part_size → part_lines (xs ++ put) (n + 1) ≡ part_lines xs n ++ part_line put

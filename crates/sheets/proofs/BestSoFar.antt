@@ -1,8 +1,9 @@
 -- The best value among the feeders of a bank, feeder by feeder.
 use Rattle.std.proofs.Common.{◌≡◌, ℕ, zero, suc, ◌+◌, ◌<◌, ◌≤◌, Bool, true, false, cond, eqb, ltb, ◌⊎◌, List, [], ◌∷◌, length, get_or, take, count_by, fold, filter, add-one, sym, refl, ap, ◌∙◌, subst, inl, inr, ⊎_elim, not-suc-le-zero, arith, below_more}
 use Rattle.std.proofs.lemmas.Bool.{cases_Bool, cond-true, cond-false, true≢false, ltb-true, ltb-false, lt-ltb, eqb-true, eqb-false}
+use Rattle.std.proofs.lemmas.List.{length-take}
 use Rattle.std.proofs.lemmas.List.Elements.{filter_more}
-use Rattle.std.proofs.lemmas.List.Sums.{fold-append}
+use Rattle.std.proofs.lemmas.List.Sums.{count_by-le-length, fold-append}
 use Rattle.sheets.specs.declared.feeder.Feeder.{Feeder}
 use Rattle.sheets.specs.declared.sheet.needs.BankNeeds.{BankNeeds}
 use Rattle.sheets.specs.Limits.{most_swap}
@@ -116,6 +117,10 @@ pub record NeedsTo (fs : List Feeder) (bank n : ℕ) (start needs : BankNeeds) :
   pub panel : needs.panel ≡ start.panel
   pub longest : BestTo (λ best x. x ≤ best) (λ f. f.reading) 0 fs bank n needs.dwell needs.dwell_feeder
   pub least : BestTo (λ best x. best ≤ x) allowance most_swap fs bank n needs.gap needs.gap_feeder
+
+-- where the first n feeders are counted, a bank has at most n of them
+pub needs_few : (fs : List Feeder) (bank n : ℕ) (start needs : BankNeeds) → start.feeders ≡ count_by (in_bank bank) (take n fs) → NeedsTo fs bank n start needs → needs.feeders ≤ n
+needs_few fs bank n start needs size h = omega (arith, h.size, size, count_by-le-length (in_bank bank) (take n fs), length-take n fs)
 
 module _ (fs : List Feeder) (bank : ℕ) (start : BankNeeds) where
   -- a feeder of another bank
