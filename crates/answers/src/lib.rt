@@ -47,6 +47,8 @@ pub fn print_sheet(rt: &impl Print, file: &[u8]) -> io::Result<()> {
 }
 
 // Prints the verdict on a file as a feeder sheet with its round, or why it is refused.
+// It keeps a frame of its own, so that only a plan takes the stack of a search, also where a program answers other files besides.
+#[inline(never)]
 pub fn print_plan(rt: &impl Print, file: &[u8]) -> io::Result<()> {
     let mut listing = [0u8; LISTING];
     match plan_text(file, &mut listing) {

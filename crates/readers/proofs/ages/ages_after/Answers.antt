@@ -1,4 +1,4 @@
-use Rattle.std.proofs.Common.{◌≡◌, ℕ, ◌+◌, ◌∙◌, ◌++◌, set, drop, replicate, min, ap, arith}
+use Rattle.std.proofs.Common.{ℕ, ◌+◌, ◌∙◌, ◌++◌, set, drop, replicate, min, ap, arith}
 use Rattle.std.proofs.lemmas.List.{length-take-le}
 use Rattle.banks.specs.declared.table.Bank.{Bank}
 use Rattle.banks.specs.Places.{age_at}
