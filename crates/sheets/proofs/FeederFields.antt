@@ -58,27 +58,26 @@ module _ (body : List ℕ) (t : AllDigits body) (l : length body ≡ 14) (banks 
         let g : outside_column (first_fields banks) body ≡ 0 = sym (column_is_written body t 10 (omega arith) 0 (first_fields banks) refl) ∙ good in
         subst (λ (c : ℕ). ToldColumn c line e) (same ∙ three_good banks (field 0 4 body) (field 4 2 body) (field 6 4 body) (outside_column (swap_fields (field 6 4 body)) body) some g) h
 
-    module _ (ms : List ℕ) (last : ms ≡ numbers_in (swap_fields (get_or ns 2 0)) body) (low : bad_column (swap_fields (get_or ns 2 0)) body ≡ 0) where
-      pub feeder_within : FeederWithin banks (feeder_of (get_or ns 0 0) (get_or ns 1 0) (get_or ns 2 0) (get_or ms 0 0))
+    module _ (swap : ℕ) (last : swap ≡ number_in 10 4 body) (long : 2 * get_or ns 2 0 + 1 ≤ swap) (short : swap ≤ 65535) where
+      pub feeder_within : FeederWithin banks (feeder_of (get_or ns 0 0) (get_or ns 1 0) (get_or ns 2 0) swap)
       feeder_within =
           let a : get_or ns 0 0 ≡ number_in 0 4 body = ap (λ (xs : List ℕ). get_or xs 0 0) read in
           let b : get_or ns 1 0 ≡ number_in 4 2 body = ap (λ (xs : List ℕ). get_or xs 1 0) read in
           let r : get_or ns 2 0 ≡ number_in 6 4 body = ap (λ (xs : List ℕ). get_or xs 2 0) read in
-          let s : get_or ms 0 0 ≡ number_in 10 4 body = ap (λ (xs : List ℕ). get_or xs 0 0) last in
           record {
             numbered = grind (arith, nat_tests);
             on_bank = grind (arith, nat_tests);
             some_reading = grind (arith, nat_tests);
             few_reading = grind (arith, nat_tests);
-            long_swap = grind (arith, nat_tests);
-            short_swap = grind (arith, nat_tests);
+            long_swap = long;
+            short_swap = short;
           }
 
-      pub feeder_text : body ≡ feeder_body (feeder_of (get_or ns 0 0) (get_or ns 1 0) (get_or ns 2 0) (get_or ms 0 0))
+      pub feeder_text : body ≡ feeder_body (feeder_of (get_or ns 0 0) (get_or ns 1 0) (get_or ns 2 0) swap)
       feeder_text =
           fields_text body t 10 (omega arith) 0 0 (first_fields banks) ns refl read
           ∙ ap (λ (xs : List ℕ). texts 0 (first_fields banks) ns ++ xs)
-          (fields_text body t 14 (omega arith) 10 0 (swap_fields (get_or ns 2 0)) ms refl last ∙ ap (λ (xs : List ℕ). texts 0 (swap_fields (get_or ns 2 0)) ms ++ xs) (drop_all 14 body (omega arith)))
+          (fields_text body t 14 (omega arith) 10 0 (swap_fields (get_or ns 2 0)) (swap ∷ []) refl (ap (λ (n : ℕ). n ∷ []) last) ∙ ap (λ (xs : List ℕ). texts 0 (swap_fields (get_or ns 2 0)) (swap ∷ []) ++ xs) (drop_all 14 body (omega arith)))
 
 -- The digits of the line that counts n feeders.
 module _ (body : List ℕ) (t : AllDigits body) (l : length body ≡ 4) (n : ℕ) where

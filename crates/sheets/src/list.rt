@@ -1,10 +1,12 @@
 // Reads the feeders of a sheet: their lines, and the line that counts them.
-ghost use Rattle.std.specs.Prelude.{◌≡◌, ◌+◌, [], length, MatchResult};
+ghost use Rattle.std.specs.Prelude.{◌≡◌, ◌+◌, ◌≤◌, cond, [], length, MatchResult};
 ghost use Rattle.frames.specs.Digits.{AllDigits, numeral};
 ghost use Rattle.frames.specs.Faults.{file_told};
-ghost use Rattle.frames.specs.Fields.{ToldColumn};
+ghost use Rattle.frames.specs.BadLines.{outside};
+ghost use Rattle.frames.specs.Fields.{ToldColumn, number_in};
 ghost use Rattle.frames.specs.BadLinesAmong.{BadLineAmong};
 ghost use Rattle.sheets.specs.Faults.{sheet_told};
+ghost use Rattle.sheets.specs.Limits.{most_swap};
 ghost use Rattle.sheets.specs.Feeders.{AllServed, FeederWithin};
 ghost use Rattle.sheets.specs.SheetLines.{feeder_body, feeder_column, count_column, due_behind, column_behind, line_behind, NextRead, ListRead, FeederFault};
 
@@ -14,6 +16,20 @@ use crate::head::Head;
 use crate::limits::{MOST_NUMBER, MOST_READING, MOST_SWAP};
 use crate::listed::FeederList;
 use frames::{Field, FileFault, Frame, Unread, read_fields};
+
+// The swap time in the digits of a feeder's line, which has to be at least so long.
+fn swap_in(body: &[u8], least: u32, line: u32) -> Result<u32, FileFault>
+    ensures { MatchResult result (λ n. (n ≡ number_in 10 4 body.now) × (least ≤ n) × (n ≤ most_swap)) (λ e. ToldColumn (cond (outside least most_swap (number_in 10 4 body.now)) 13 0) line e) }
+{
+    let swap = Field {
+        place: 10,
+        width: 4,
+        low: least,
+        high: MOST_SWAP as u32,
+    };
+    let [swap] = read_fields(body, line, &[swap])?;
+    Ok(swap)
+}
 
 // The feeder in the digits of its line.
 fn feeder_in(body: &[u8], head: Head, line: u32) -> Result<Feeder, FileFault>
@@ -40,13 +56,7 @@ fn feeder_in(body: &[u8], head: Head, line: u32) -> Result<Feeder, FileFault>
         high: MOST_READING as u32,
     };
     let [number, bank, reading] = read_fields(body, line, &[number, bank, reading])?;
-    let swap = Field {
-        place: 10,
-        width: 4,
-        low: 2 * reading + 1,
-        high: MOST_SWAP as u32,
-    };
-    let [swap] = read_fields(body, line, &[swap])?;
+    let swap = swap_in(body, 2 * reading + 1, line)?;
     Ok(Feeder {
         number: number as u16,
         bank: bank as u8,

@@ -21,6 +21,6 @@ returns c =
     let some : 1 ≤ c.args.head.banks = omega (arith, c.args.head.enough) in
     let n = c.in_ok-number.ensures in
     let m = c.in_ok-swap.ensures in (
-      feeder_within c.args.body.now c.requires.digits c.requires.size c.args.head.banks some _ n.0 n.1 _ m.0 m.1,
-      feeder_text c.args.body.now c.requires.digits c.requires.size c.args.head.banks some _ n.0 n.1 _ m.0 m.1,
+      feeder_within c.args.body.now c.requires.digits c.requires.size c.args.head.banks some _ n.0 n.1 _ m.0 m.1 m.2,
+      feeder_text c.args.body.now c.requires.digits c.requires.size c.args.head.banks some _ n.0 n.1 _ m.0 m.1 m.2,
     )
