@@ -1,6 +1,7 @@
 // The answer of the planner to a sheet: 1,024 rows and one grant of 4,096 visits.
 ghost use Rattle.std.specs.Prelude.{◌≡◌, length};
 ghost use Rattle.rig.specs.Guides.{guided};
+ghost use Rattle.listings.specs.Findings.{finding_of};
 ghost use Rattle.planner.specs.Answers.{Answers, AnswersOn, RecordOf, ServesSheet, one_grant_of, plan_rows};
 
 use crate::planned::{Planned, plan};
@@ -9,7 +10,7 @@ use listings::Finding;
 use readers::{PanelledReader, PlainReader};
 use rig::{GuidedRig, Rig};
 use rounds::RoundRecord;
-use search::{Call, Reply, Row};
+use search::{Call, Outcome, Reply, Row};
 use sheets::Sheet;
 
 // The rows that are searched in, and the visits that are granted.
@@ -36,6 +37,13 @@ impl Answer {
     }
 }
 
+// What a search came to, with the record of its round.
+fn found(search: Outcome, round: RoundRecord) -> Finding<RoundRecord>
+    ensures { result ≡ finding_of search.verdict round }
+{
+    Finding::of(search.verdict, round)
+}
+
 // The answer that one grant over these rows gives.
 fn answer_on<R: GuidedRig>(sheet: &Sheet, rows: &mut [Row<R::State>], calls: &[Call<R>]) -> Answer
     requires many { length rows.old ≡ plan_rows }
@@ -48,7 +56,7 @@ fn answer_on<R: GuidedRig>(sheet: &Sheet, rows: &mut [Row<R::State>], calls: &[C
     let Planned { outcome, reader } = plan(sheet, rows, calls, &mut replies, &mut room, stock);
     match outcome {
         Ok(done) => Answer {
-            finding: Finding::of(done.verdict, reader.stop()),
+            finding: found(done, reader.stop()),
             visits: done.taken as u32,
         },
         Err(_) => unreachable(),

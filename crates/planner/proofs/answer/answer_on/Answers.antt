@@ -8,4 +8,4 @@ pub returns : goal.returns
 returns g c = λ rig one serves.
     let p = c.plan-outcome in
     let stock = c.stock-stock in
-    answers_from (λ r. guided (g.R.Rig.means r) (g.R.GuidedRig.guide r)) rig c.args.calls.now c.args.rows.now _ _ p.new.rows p.new.replies p.new.room p.result.outcome c.args.sheet.now stock.result p.result.reader.round c.stop.result c.in-Ok.done c.of.result c.requires.many (length-replicate {A = ℕ} 1024 0) p.auto.rows p.auto.room one serves c.in-Ok.is c.stop.ensures p.ensures.searched p.ensures.runs c.of.ensures
+    answers_from (λ r. guided (g.R.Rig.means r) (g.R.GuidedRig.guide r)) rig c.args.calls.now c.args.rows.now _ _ p.new.rows p.new.replies p.new.room p.result.outcome c.args.sheet.now stock.result p.result.reader.round c.stop.result c.in-Ok.done c.found.result c.requires.many (length-replicate {A = ℕ} 1024 0) p.auto.rows p.auto.room one serves c.in-Ok.is c.stop.ensures p.ensures.searched p.ensures.runs c.found.ensures
