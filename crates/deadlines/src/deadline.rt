@@ -2,6 +2,7 @@
 ghost use Rattle.std.specs.Prelude.{◌≡◌, false, Decides};
 ghost use Rattle.banks.specs.Places.{age_at, spread};
 ghost use Rattle.banks.specs.Table.{dwell};
+ghost use Rattle.banks.specs.declared.table.BankTable.{BankTable as AnyTable};
 ghost use Rattle.deadlines.specs.Deadlines.{deadline, due_sum, some_overrun, Hopeless, NoneMeets, SomeMeets};
 
 use banks::BankTable;
@@ -25,11 +26,10 @@ fn dwells(table: &BankTable) -> [u16; MOST_BANKS]
     array::from_fn(|i| table.at(i).dwell)
 }
 
-// The ticks of one dwell on each bank whose deadline is at most `by`.
-pub fn due_by(table: &BankTable, deadlines: [u32; MOST_BANKS], by: u32) -> u32
-    ensures { result ≡ due_sum table.now (age_at deadlines) by }
+// The sum of these dwells over the banks whose deadline is at most `by`.
+fn due_of(dwells: [u16; MOST_BANKS], deadlines: [u32; MOST_BANKS], by: u32) -> u32
+    ensures { (t : AnyTable) → dwells ≡ spread (dwell t) → result ≡ due_sum t (age_at deadlines) by }
 {
-    let dwells = dwells(table);
     let mut sum = 0;
     for (i, dwell) in dwells.iter().enumerate() {
         let deadline = deadlines[i];
@@ -40,15 +40,23 @@ pub fn due_by(table: &BankTable, deadlines: [u32; MOST_BANKS], by: u32) -> u32
     sum
 }
 
+// The ticks of one dwell on each bank whose deadline is at most `by`.
+pub fn due_by(table: &BankTable, deadlines: [u32; MOST_BANKS], by: u32) -> u32
+    ensures { result ≡ due_sum table.now (age_at deadlines) by }
+{
+    due_of(dwells(table), deadlines, by)
+}
+
 // Whether for some bank the dwells that are due by its deadline take longer than that.
 fn some_overdue(table: &BankTable, deadlines: [u32; MOST_BANKS]) -> bool
     ensures { Decides result (Hopeless table.now (age_at deadlines)) }
 {
     let banks = table.count() as usize;
+    let dwells = dwells(table);
     deadlines
         .into_iter()
         .take(banks)
-        .any(move |due| due_by(table, deadlines, due) > due)
+        .any(move |due| due_of(dwells, deadlines, due) > due)
 }
 
 // Whether the state with these ages is hopeless: no order of all banks meets the deadlines. Otherwise some order does.
